@@ -1,5 +1,5 @@
 -- What a choice does where a node's run of t was made before it, which sets t and takes locks there.
-use Rattle.std.proofs.Common.{◌≡◌, ◌∙◌, ◌⊎◌, inl, inr, ℕ, List, length, refl, sym, ap, subst, Bool, true, false, cond}
+use Rattle.std.proofs.Common.{◌≡◌, ◌∙◌, ◌⊎◌, inl, inr, ℕ, List, [], length, refl, sym, ap, subst, Bool, true, false, cond}
 use Rattle.std.specs.Prelude.{slice_get, slice_set}
 use Rattle.std.proofs.lemmas.Bool.{cases_eq, false≢true}
 use Rattle.std.proofs.lemmas.List.{length-set}
@@ -15,7 +15,7 @@ use Rattle.zy_table.specs.declared.outcome.Outcome.TheVariants as outcome
 use Rattle.zy_table.specs.declared.status.Status.{Status}
 use Rattle.zy_table.specs.declared.status.Status.TheVariants.{New, Active, Committed, Aborted}
 use Rattle.zy_table.specs.State.{State, View, NodeState, Move, Step, Txn, facing, seen_from, other, as_step}
-use Rattle.zy_table.specs.Change.{quiet, txn_at, txn_or, aborted}
+use Rattle.zy_table.specs.Change.{quiet, txn_at, txn_or, with_txn, aborted}
 use Rattle.zy_table.specs.Client.{is_active, is_new, begin_step, kill_step}
 use Rattle.zy_table.specs.Run.{same_node, run_step}
 use Rattle.zy_table.specs.Play.{move, side_of, step}
@@ -105,6 +105,56 @@ unfolding txn_at
 seen_txn A t s = refl
 seen_txn B t s = refl
 
+-- ---- the client's side
+
+-- t is the one that was set
+moved_own : (n : Node) (t : ℕ) (y : Txn) (ls : List Lock) (s : State) → is_active (txn_at (facing n s) t).status ≡ true
+    → txn_at (facing A (moved n t y ls s)) t ≡ y
+unfolding txn_at
+moved_own A t y ls s on = at_self (facing A s) (facing A (moved A t y ls s)) t y refl on
+moved_own B t y ls s on = at_self (facing B s) (facing B (moved B t y ls s)) t y refl on
+
+-- the others are as they were
+moved_other : (n : Node) (t u : ℕ) (y : Txn) (ls : List Lock) (s : State) → (u ≡ t → ⊥)
+    → txn_at (facing A (moved n t y ls s)) u ≡ txn_at (facing A s) u
+unfolding txn_at
+moved_other A t u y ls s far = at_other (facing A s) (facing A (moved A t y ls s)) t u y refl far
+moved_other B t u y ls s far = at_other (facing B s) (facing B (moved B t y ls s)) t u y refl far
+
+-- there are as many
+moved_many : (n : Node) (t : ℕ) (y : Txn) (ls : List Lock) (s : State) → length (facing A s).txns ≡ length (facing A (moved n t y ls s)).txns
+moved_many A t y ls s = sym (length-set s.txns t y)
+moved_many B t y ls s = sym (length-set s.txns t y)
+
+-- the modes are the same
+moved_mode : (n : Node) (t : ℕ) (y : Txn) (ls : List Lock) (s : State) → (facing A s).me.mode ≡ (facing A (moved n t y ls s)).me.mode
+moved_mode A t y ls s = refl
+moved_mode B t y ls s = refl
+
+moved_far_mode : (n : Node) (t : ℕ) (y : Txn) (ls : List Lock) (s : State) → (facing A s).them.mode ≡ (facing A (moved n t y ls s)).them.mode
+moved_far_mode A t y ls s = refl
+moved_far_mode B t y ls s = refl
+
+-- a state where transaction u is set
+abbrev with_one : ℕ → Txn → State → State
+with_one u x s = seen_from A (with_txn u x (facing A s))
+
+-- where t and locks are others, too
+moved_with : (n : Node) (t u : ℕ) (y x : Txn) (ls : List Lock) (s : State) → (u ≡ t → ⊥)
+    → with_one u x (moved n t y ls s) ≡ moved n t y ls (with_one u x s)
+moved_with A t u y x ls s far = ap (λ (zs : List Txn). record (moved A t y ls s) { txns = zs }) (set_swap s.txns t u y x far)
+moved_with B t u y x ls s far = ap (λ (zs : List Txn). record (moved B t y ls s) { txns = zs }) (set_swap s.txns t u y x far)
+
+-- each node is as it was
+with_one_me : (n : Node) (u : ℕ) (x : Txn) (s : State) → (facing n (with_one u x s)).me ≡ (facing n s).me
+with_one_me A u x s = refl
+with_one_me B u x s = refl
+
+-- and so is each other transaction
+with_one_txn : (n : Node) (t u : ℕ) (x : Txn) (s : State) → (t ≡ u → ⊥) → txn_at (facing n (with_one u x s)) t ≡ txn_at (facing n s) t
+with_one_txn A t u x s far = at_other (facing A s) (facing A (with_one u x s)) u t x refl far
+with_one_txn B t u x s far = at_other (facing B s) (facing B (with_one u x s)) u t x refl far
+
 -- a choice, seen from its side, leaves t and the other node, and does the same beside another t
 pub record Far (sc : Scenario) (t : ℕ) (c : Choice) (v : View) : Type 0 where
   pub them : (move sc c v).after.them ≡ v.them
@@ -135,3 +185,157 @@ module _ (sc : Scenario) (n : Node) (t : ℕ) (s : State) where
             ∙ (ap (λ (r : State). record { after = r; outcome = m.outcome; sent = m.sent }) (far_state n t y ls (facing n s).me m.after me)
             ∙ ap (moved_step n t y ls) (sym here))));
       }
+
+  -- ---- the choices of the other node, seen from there
+
+  module _ (v : View) where
+    -- a run of another transaction
+    far_run : (m : Node) (u : ℕ) → (u ≡ t → ⊥) → Far sc t (Run m u) v
+    unfolding move
+    far_run m u far =
+        let c = move_changes sc (Run m u) v in
+        record {
+          them = ap (λ (w : View). w.them) c;
+          txn = at_other v (run_step sc m u v).after u t _ (ap (λ (w : View). w.txns) c) (λ e. far (sym e));
+          beside = λ y z _. runs_aside t y z sc m u v far;
+        }
+
+    -- a run of t, which is active elsewhere
+    far_elsewhere : (m : Node) → is_active (txn_at v t).status ≡ true → same_node (txn_at v t).node m ≡ false → Far sc t (Run m t) v
+    unfolding move
+    far_elsewhere m on off =
+        let e = elsewhere t (txn_at v t) v.them sc m v on off in
+        record {
+          them = ap (λ (k : Move). k.after.them) e;
+          txn = ap (λ (k : Move). txn_at k.after t) e;
+          beside = λ y z stays. runs_elsewhere t y z sc m v on off stays;
+        }
+
+    -- a take
+    far_take : (m : Node) → Far sc t (Take m) v
+    unfolding move txn_at
+    far_take m =
+        let c = move_changes sc (Take m) v in
+        record {
+          them = ap (λ (w : View). w.them) c;
+          txn = ap (λ (w : View). txn_at w t) c;
+          beside = λ y z _. takes_aside t y z sc v;
+        }
+
+    -- a finish
+    far_finish : (m : Node) → Far sc t (Finish m) v
+    unfolding move txn_at
+    far_finish m =
+        let c = move_changes sc (Finish m) v in
+        record {
+          them = ap (λ (w : View). w.them) c;
+          txn = ap (λ (w : View). txn_at w t) c;
+          beside = λ y z stays. finishes_aside t y z sc m v stays;
+        }
+
+    -- a push
+    far_push : (m : Node) → Far sc t (Push m) v
+    unfolding move txn_at
+    far_push m =
+        let c = move_changes sc (Push m) v in
+        record {
+          them = ap (λ (w : View). w.them) c;
+          txn = ap (λ (w : View). txn_at w t) c;
+          beside = λ y z _. pushes_aside t y z sc m v;
+        }
+
+    -- a kill of another transaction
+    far_kill : (u : ℕ) → (u ≡ t → ⊥) → Far sc t (Kill u) v
+    unfolding move
+    far_kill u far =
+        let c = move_changes sc (Kill u) v in
+        record {
+          them = ap (λ (w : View). w.them) c;
+          txn = at_other v (kill_step u v).after u t _ (ap (λ (w : View). w.txns) c) (λ e. far (sym e));
+          beside = λ y z _. kills_aside t y z sc u v far;
+        }
+
+  -- ---- a begin, which is seen from A
+
+  -- a begin of t, which has begun
+  begins_own : is_active (txn_at (facing n s) t).status ≡ true → Passes sc n t s (Begin t)
+  unfolding step move begin_step
+  begins_own on =
+      let idle : (r : State) → is_active (txn_at (facing A r) t).status ≡ true → step sc (Begin t) r ≡ as_step A (quiet (facing A r) outcome.Idle) =
+          λ r h. rw (has_begun _ h) refl in
+      let at_a = ap (λ (x : Txn). is_active x.status) (at_side n s t ∙ sym (at_side A s t)) in
+      let here = idle s (sym at_a ∙ on) in
+      record {
+        on_locks = same;
+        fair = same_fair t;
+        me = ap (λ (x : Step). (facing n x.after).me) here;
+        txn = ap (λ (x : Step). txn_at (facing n x.after) t) here;
+        step = λ y ls stays.
+            let u = moved n t y ls s in
+            let now = moved_own n t y ls s on in
+            idle u (ap (λ (x : Txn). is_active x.status) now ∙ (ap is_active stays.status ∙ on)) ∙ sym (ap (moved_step n t y ls) here);
+      }
+
+  -- a begin of another
+  begins_other : (u : ℕ) → (u ≡ t → ⊥) → Passes sc n t s (Begin u)
+  unfolding step move
+  begins_other u far =
+      let v = facing A s in
+      let m = begin_step u v in
+      let x = txn_at m.after u in
+      let c : seen_from A m.after ≡ with_one u x s = ap (seen_from A) (move_changes sc (Begin u) v) in
+      record {
+        on_locks = same;
+        fair = same_fair t;
+        me = ap (λ (r : State). (facing n r).me) c ∙ with_one_me n u x s;
+        txn = ap (λ (r : State). txn_at (facing n r) t) c ∙ with_one_txn n t u x s (λ e. far (sym e));
+        step = λ y ls _.
+            let w = facing A (moved n t y ls s) in
+            ap (as_step A) (begins u v w (moved_many n t y ls s) (sym (moved_other n t u y ls s far)) (moved_mode n t y ls s) (moved_far_mode n t y ls s))
+            ∙ ap (λ (r : State). record { after = r; outcome = m.outcome; sent = m.sent })
+            (moved_with n t u y x ls s far ∙ ap (moved n t y ls) (sym c));
+      }
+
+  -- ---- a kill of a transaction at n
+
+  module _ (u : ℕ) (far : u ≡ t → ⊥) where
+    -- what it does to locks
+    abbrev dropped : Bool → List Lock → List Lock
+    dropped true ls = drop_locks u ls
+    dropped false ls = ls
+
+    -- that is fair
+    dropped_fair : (b : Bool) → IsFair t (dropped b)
+    dropped_fair true = drop_fair t u far
+    dropped_fair false = same_fair t
+
+    -- what it does
+    killed : (b : Bool) (w : View) → is_active (txn_at w u).status ≡ b
+        → kill_step u w ≡ cond b (quiet (aborted u why.Killed w) (outcome.Aborted why.Killed)) (quiet w outcome.Idle)
+    unfolding kill_step
+    killed b w e = ap (λ (x : Bool). cond x (quiet (aborted u why.Killed w) (outcome.Aborted why.Killed)) (quiet w outcome.Idle)) e
+
+    -- where t and locks are others
+    kills_put : (b : Bool) (v : View) (y : Txn) (ls : List Lock) → is_active (txn_at v u).status ≡ b
+        → kill_step u (put t y ls v) ≡ record (kill_step u v) { after = put t y (dropped b ls) (kill_step u v).after }
+    unfolding aborted
+    kills_put true v y ls e =
+        let w = put t y ls v in
+        let q : txn_at w u ≡ txn_at v u = at_other v w t u y refl far in
+        killed true w (ap (λ (x : Txn). is_active x.status) q ∙ e)
+        ∙ (ap (λ (x : Txn). quiet (record w { me = record v.me { locks = drop_locks u ls };
+        txns = slice_set w.txns u (record x { status = Aborted why.Killed; rows = [] }) }) (outcome.Aborted why.Killed)) q
+        ∙ (ap (λ (zs : List Txn). quiet (record w { me = record v.me { locks = drop_locks u ls }; txns = zs }) (outcome.Aborted why.Killed))
+        (set_swap v.txns t u y (record (txn_at v u) { status = Aborted why.Killed; rows = [] }) far)
+        ∙ sym (ap (λ (k : Move). record k { after = put t y (drop_locks u ls) k.after }) (killed true v e))))
+    kills_put false v y ls e =
+        let w = put t y ls v in
+        let q : txn_at w u ≡ txn_at v u = at_other v w t u y refl far in
+        killed false w (ap (λ (x : Txn). is_active x.status) q ∙ e)
+        ∙ sym (ap (λ (k : Move). record k { after = put t y ls k.after }) (killed false v e))
+
+    -- the node after it
+    kills_me : (b : Bool) (v : View) → is_active (txn_at v u).status ≡ b → (kill_step u v).after.me ≡ record v.me { locks = dropped b v.me.locks }
+    unfolding aborted
+    kills_me true v e = ap (λ (k : Move). k.after.me) (killed true v e)
+    kills_me false v e = ap (λ (k : Move). k.after.me) (killed false v e)
