@@ -5,3 +5,4 @@ pub mod Numbered
 pub mod Carried
 pub mod Asides
 pub mod Passes
+pub mod Commuting

@@ -20,6 +20,7 @@ use Rattle.zy_table.specs.Client.{is_active, is_new, begin_step, kill_step}
 use Rattle.zy_table.specs.Run.{same_node, run_step}
 use Rattle.zy_table.specs.Play.{move, side_of, step}
 use Rattle.zy_laws.proofs.walk.Txns.{at_other, at_self, at_side}
+use Rattle.zy_frames.proofs.Rest.{face}
 use Rattle.zy_frames.proofs.StepReads.{begins}
 use Rattle.zy_frames.proofs.SameMoves.{move_changes}
 use Rattle.zy_commute.specs.Commute.{IsApart, Stays}
@@ -339,3 +340,84 @@ module _ (sc : Scenario) (n : Node) (t : ℕ) (s : State) where
     unfolding aborted
     kills_me true v e = ap (λ (k : Move). k.after.me) (killed true v e)
     kills_me false v e = ap (λ (k : Move). k.after.me) (killed false v e)
+
+    -- the view of n
+    near_view : (y : Txn) (ls : List Lock) → facing n (moved n t y ls s) ≡ put t y ls (facing n s)
+    near_view y ls = face n (put t y ls (facing n s))
+
+    -- the state of such a view
+    near_state : (y : Txn) (ls : List Lock) (w : View) → seen_from n (put t y ls w) ≡ moved n t y ls (seen_from n w)
+    near_state y ls w = ap (λ (v : View). seen_from n (put t y ls v)) (sym (face n w))
+
+    -- a kill at n
+    kills_near : side_of sc (Kill u) s ≡ n → ((y : Txn) (ls : List Lock) → side_of sc (Kill u) (moved n t y ls s) ≡ n) → Passes sc n t s (Kill u)
+    unfolding step move
+    kills_near side sides =
+        let v = facing n s in
+        let m = kill_step u v in
+        let b = is_active (txn_at v u).status in
+        let c = move_changes sc (Kill u) v in
+        let here : step sc (Kill u) s ≡ as_step n m = ap (λ (k : Node). as_step k (kill_step u (facing k s))) side in
+        let back = ap (λ (x : Step). facing n x.after) here ∙ face n m.after in
+        record {
+          on_locks = dropped b;
+          fair = dropped_fair b;
+          me = ap (λ (w : View). w.me) back ∙ kills_me b v refl;
+          txn = ap (λ (w : View). txn_at w t) back ∙ at_other v m.after u t _ (ap (λ (w : View). w.txns) c) (λ e. far (sym e));
+          step = λ y ls _.
+              let r = moved n t y ls s in
+              ap (λ (k : Node). as_step k (kill_step u (facing k r))) (sides y ls)
+              ∙ (ap (λ (w : View). as_step n (kill_step u w)) (near_view y ls)
+              ∙ (ap (as_step n) (kills_put b v y ls refl)
+              ∙ (ap (λ (z : State). record { after = z; outcome = m.outcome; sent = m.sent }) (near_state y (dropped b ls) m.after)
+              ∙ ap (moved_step n t y (dropped b ls)) (sym here))));
+        }
+
+    -- the side of a kill is the same where t and locks are others
+    kill_side : (y : Txn) (ls : List Lock) → side_of sc (Kill u) (moved n t y ls s) ≡ side_of sc (Kill u) s
+    kill_side y ls =
+        ap (λ (x : Txn). x.node) (sym (at_side A (moved n t y ls s) u) ∙ (moved_other n t u y ls s far ∙ at_side A s u))
+
+    -- a kill
+    kills_passes : Passes sc n t s (Kill u)
+    kills_passes = elim (either (side_of sc (Kill u) s) n) [
+      | inl e ↦ kills_near e (λ y ls. kill_side y ls ∙ e)
+      | inr e ↦ far_passes (Kill u) e (λ y ls. kill_side y ls ∙ e) (far_kill (facing (other n) s) u far)
+    ]
+
+  -- ---- any choice that is apart
+
+  module _ (on : is_active (txn_at (facing n s) t).status ≡ true) (here : same_node (txn_at (facing n s) t).node n ≡ true) where
+    -- a begin
+    begins_passes : (u : ℕ) → Passes sc n t s (Begin u)
+    begins_passes u = elim (cases_eq u t) [
+      | inl e ↦ subst (λ (x : ℕ). Passes sc n t s (Begin x)) (sym e) (begins_own on)
+      | inr far ↦ begins_other u far
+    ]
+
+    -- a run of the other node
+    run_passes : (u : ℕ) → Passes sc n t s (Run (other n) u)
+    run_passes u =
+        let v = facing (other n) s in
+        far_passes (Run (other n) u) refl (λ y ls. refl) (elim (cases_eq u t) [
+          | inl e ↦ subst (λ (x : ℕ). Far sc t (Run (other n) x) v) (sym e)
+              (far_elsewhere v (other n) (ap (λ (x : Txn). is_active x.status) (seen_txn n t s) ∙ on)
+              (ap (λ (x : Txn). same_node x.node (other n)) (seen_txn n t s) ∙ not_other _ n here))
+          | inr far ↦ far_run v (other n) u far
+        ])
+
+    -- each choice that is apart
+    pub apart_passes : (c : Choice) → IsApart n t c → Passes sc n t s c
+    apart_passes Start h = absurd h
+    apart_passes (Begin u) h = begins_passes u
+    apart_passes (Kill u) h = kills_passes u h
+    apart_passes (Run m u) h = subst (λ (k : Node). Passes sc n t s (Run k u)) (sym h) (run_passes u)
+    apart_passes (Take m) h =
+        subst (λ (k : Node). Passes sc n t s (Take k)) (sym h)
+        (far_passes (Take (other n)) refl (λ y ls. refl) (far_take (facing (other n) s) (other n)))
+    apart_passes (Finish m) h =
+        subst (λ (k : Node). Passes sc n t s (Finish k)) (sym h)
+        (far_passes (Finish (other n)) refl (λ y ls. refl) (far_finish (facing (other n) s) (other n)))
+    apart_passes (Push m) h =
+        subst (λ (k : Node). Passes sc n t s (Push k)) (sym h)
+        (far_passes (Push (other n)) refl (λ y ls. refl) (far_push (facing (other n) s) (other n)))

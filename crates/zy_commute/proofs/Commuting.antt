@@ -1,0 +1,110 @@
+-- A run whose outcome is `did` may come first.
+use Rattle.std.proofs.Common.{◌≡◌, ◌∙◌, ℕ, List, [], ◌∷◌, ◌++◌, length, refl, sym, ap, subst, None}
+use Rattle.zy_isa.specs.declared.node.Node.{Node}
+use Rattle.zy_isa.specs.declared.node.Node.TheVariants.{A, B}
+use Rattle.zy_isa.specs.declared.choice.Choice.{Choice}
+use Rattle.zy_isa.specs.declared.choice.Choice.TheVariants.{Run}
+use Rattle.zy_isa.specs.Scenario.{Scenario}
+use Rattle.zy_model.specs.declared.lock.Lock.{Lock}
+use Rattle.zy_model.specs.Order.{LocksRise}
+use Rattle.zy_table.specs.declared.entry.Entry.{Entry}
+use Rattle.zy_table.specs.declared.outcome.Outcome.{Outcome}
+use Rattle.zy_table.specs.declared.outcome.Outcome.TheVariants.{Did}
+use Rattle.zy_table.specs.State.{State, View, NodeState, Move, Step, Txn, facing, seen_from, as_step}
+use Rattle.zy_table.specs.Change.{quiet, txn_at}
+use Rattle.zy_table.specs.Run.{run_step}
+use Rattle.zy_table.specs.Play.{move, step, side_of, play, entry_of, entries}
+use Rattle.zy_frames.proofs.Rest.{step_leaves}
+use Rattle.zy_commute.specs.Commute.{Does, IsApart, AreApart, MayComeFirst, Stays}
+use Rattle.zy_commute.proofs.DidRuns.{Went, relocked, put, did_went, stands}
+use Rattle.zy_commute.proofs.Carried.{carried}
+use Rattle.zy_commute.proofs.Passes.{Passes, moved, apart_passes}
+
+-- the transactions of a state are those of each view of it
+facing_txns : (n : Node) (s : State) → (facing n s).txns ≡ s.txns
+facing_txns A s = refl
+facing_txns B s = refl
+
+-- a step leaves as many transactions
+many_step : (sc : Scenario) (c : Choice) (s : State) → length (step sc c s).after.txns ≡ length s.txns
+many_step sc c s =
+    let k = side_of sc c s in
+    ap length (sym (facing_txns k (step sc c s).after)) ∙ ((step_leaves sc c s).txns.many ∙ ap length (facing_txns k s))
+
+-- a step that did an instruction of t, took locks and sent nothing
+abbrev did_step : Node → ℕ → Txn → List Lock → State → Step
+did_step n t y ls s = record { after = moved n t y ls s; outcome = Did; sent = None }
+
+-- A run does in a state and after a choice, with the locks that the choice leaves.
+record Twice (sc : Scenario) (n : Node) (t : ℕ) (s : State) (c : Choice) : Type 0 where
+  pub txn : Txn
+  pub locks : List Lock
+  pub others : List Lock
+  pub first : step sc (Run n t) s ≡ did_step n t txn locks s
+  pub second : step sc (Run n t) (step sc c s).after ≡ did_step n t txn others (step sc c s).after
+  pub other : step sc c (moved n t txn locks s) ≡ record (step sc c s) { after = moved n t txn others (step sc c s).after }
+  pub does : Does sc n t (step sc c s).after
+
+module _ (sc : Scenario) (n : Node) (t : ℕ) where
+  -- both come to the same
+  twice : (s : State) (c : Choice) → Does sc n t s → Passes sc n t s c → Twice sc n t s c
+  unfolding step move txn_at
+  twice s c does p =
+      let v = facing n s in
+      let r = (step sc c s).after in
+      let w = facing n r in
+      let went = did_went t p.on_locks p.fair v does.locks sc n does.outcome in
+      let many : length v.txns ≡ length w.txns =
+          ap length (facing_txns n s) ∙ (sym (many_step sc c s) ∙ ap length (sym (facing_txns n r))) in
+      let after = carried sc n t (relocked (p.on_locks v.me.locks) v) w went.txn (p.on_locks went.locks) many (sym p.me) (sym p.txn) went.second in
+      let again = ap (as_step n) after in
+      record {
+        txn = went.txn;
+        locks = went.locks;
+        others = p.on_locks went.locks;
+        first = ap (as_step n) went.first;
+        second = again;
+        other = p.step went.txn went.locks went.stays;
+        does = record {
+          locks = subst (λ (x : NodeState). LocksRise x.locks) (sym p.me) (p.fair.rises v.me.locks does.locks);
+          outcome = ap (λ (x : Step). x.outcome) again;
+        };
+      }
+
+  -- one choice may be made behind
+  swaps : (s : State) (c : Choice) → Does sc n t s → IsApart n t c → Twice sc n t s c
+  unfolding step move
+  swaps s c does apart =
+      let at = stands sc n t (facing n s) does.outcome in
+      twice s c does (apart_passes sc n t s at.0 at.1 c apart)
+
+  -- the state after both
+  swapped : (s : State) (c : Choice) → Twice sc n t s c → (step sc c (step sc (Run n t) s).after).after ≡ (step sc (Run n t) (step sc c s).after).after
+  swapped s c k =
+      ap (λ (x : Step). (step sc c x.after).after) k.first
+      ∙ (ap (λ (x : Step). x.after) k.other
+      ∙ sym (ap (λ (x : Step). x.after) k.second))
+
+  -- the run is the same
+  own_same : (s : State) (c : Choice) → Twice sc n t s c
+      → entry_of (Run n t) (step sc (Run n t) (step sc c s).after) ≡ entry_of (Run n t) (step sc (Run n t) s)
+  own_same s c k = ap (entry_of (Run n t)) k.second ∙ sym (ap (entry_of (Run n t)) k.first)
+
+  -- so is the choice
+  other_same : (s : State) (c : Choice) → Twice sc n t s c → entry_of c (step sc c (step sc (Run n t) s).after) ≡ entry_of c (step sc c s)
+  other_same s c k = ap (λ (x : Step). entry_of c (step sc c x.after)) k.first ∙ ap (entry_of c) k.other
+
+  -- many may
+  pub comes_first : (s : State) (cs : List Choice) → Does sc n t s → AreApart n t cs → MayComeFirst sc s (Run n t) cs
+  comes_first s [] does apart = record { after = refl; own = refl; others = refl }
+  comes_first s (c ∷ cs) does apart =
+      let k = swaps s c does apart.0 in
+      let rest = comes_first (step sc c s).after cs k.does apart.1 in
+      let there = swapped s c k in
+      record {
+        after = ap (λ (r : State). play sc r cs) there ∙ rest.after;
+        own = rest.own ∙ own_same s c k;
+        others =
+            ap (λ (e : Entry). e ∷ entries sc (step sc c (step sc (Run n t) s).after).after cs) (other_same s c k)
+            ∙ ap (λ (es : List Entry). entry_of c (step sc c s) ∷ es) (ap (λ (r : State). entries sc r cs) there ∙ rest.others);
+      }
