@@ -1,26 +1,24 @@
 -- A choice of one node does the same where the other node and a transaction that it does not read are others.
-use Rattle.std.proofs.Common.{◌≡◌, ◌∙◌, ℕ, List, [], ◌∷◌, ◌++◌, length, refl, sym, ap, true, false, Option}
-use Rattle.std.specs.Prelude.{slice_get, slice_set}
+use Rattle.std.proofs.Common.{◌≡◌, ◌∙◌, ℕ, List, [], ◌∷◌, refl, sym, ap, true, false, Option}
+use Rattle.std.specs.Prelude.{slice_set}
 use Rattle.std.proofs.lemmas.List.{length-set}
 use Rattle.zy_isa.specs.declared.node.Node.{Node}
-use Rattle.zy_isa.specs.declared.choice.Choice.{Choice}
-use Rattle.zy_isa.specs.declared.choice.Choice.TheVariants.{Begin, Kill, Run, Take, Finish, Push}
+use Rattle.zy_isa.specs.declared.choice.Choice.TheVariants.{Kill, Run, Finish, Push}
 use Rattle.zy_isa.specs.Scenario.{Scenario}
 use Rattle.zy_model.specs.Messages.{Message}
 use Rattle.zy_model.specs.declared.kind.Kind.{Kind}
 use Rattle.zy_table.specs.declared.outcome.Outcome.{Outcome}
 use Rattle.zy_table.specs.declared.outcome.Outcome.TheVariants as outcome
 use Rattle.zy_table.specs.State.{View, NodeState, Move, Txn}
-use Rattle.zy_table.specs.Change.{quiet, txn_at, txn_or}
+use Rattle.zy_table.specs.Change.{quiet, txn_at}
 use Rattle.zy_table.specs.Client.{is_active, kill_step}
 use Rattle.zy_table.specs.Run.{same_node, run_step}
 use Rattle.zy_table.specs.Take.{front_step, take_step}
 use Rattle.zy_table.specs.Push.{finish_step, push_step}
 use Rattle.zy_table.specs.Play.{move}
 use Rattle.zy_laws.proofs.walk.Txns.{at_other, at_self}
-use Rattle.zy_frames.specs.Reads.{uncounted}
-use Rattle.zy_frames.proofs.RunReads.{bare, runs}
-use Rattle.zy_frames.proofs.StepReads.{beside_move, before, finishes, kills, pushes, takes_first}
+use Rattle.zy_frames.proofs.RunReads.{runs}
+use Rattle.zy_frames.proofs.StepReads.{beside_move, finishes, kills, pushes, takes_first}
 use Rattle.zy_frames.proofs.SameMoves.{move_changes}
 use Rattle.zy_commute.specs.Commute.{Stays}
 use Rattle.zy_commute.proofs.SetTwo.{set_swap, active_stays}
@@ -58,11 +56,11 @@ module _ (t : ℕ) (y : Txn) (z : NodeState) where
       let r = runs u z v.inbox [] ys [] sc m v (sym (length-set v.txns t y), other_txn u v far) in
       let c = move_changes sc (Run m u) v in
       let txns : slice_set ys u (txn_at x.after u) ≡ slice_set x.after.txns t y =
-          set_swap v.txns t u y (txn_at x.after u) far ∙ sym (ap (λ (w : View). slice_set w.txns t y) c) in
+      set_swap v.txns t u y (txn_at x.after u) far ∙ sym (ap (λ (w : View). slice_set w.txns t y) c) in
       let after : (run_step sc m u (aside v)).after ≡ aside x.after =
-          ap (λ (k : Move). k.after) r
-          ∙ (ap (λ (ms : List Message). record x.after { them = z; inbox = ms; txns = slice_set ys u (txn_at x.after u) }) (sym (ap (λ (w : View). w.inbox) c))
-          ∙ ap (λ (zs : List Txn). record x.after { them = z; txns = zs }) txns) in
+      ap (λ (k : Move). k.after) r
+      ∙ (ap (λ (ms : List Message). record x.after { them = z; inbox = ms; txns = slice_set ys u (txn_at x.after u) }) (sym (ap (λ (w : View). w.inbox) c))
+      ∙ ap (λ (zs : List Txn). record x.after { them = z; txns = zs }) txns) in
       by_parts (run_step sc m u (aside v)) (aside_move x) after
       (same_outcome sc m m u u (aside v) v (ap (λ (k : Move). k.outcome) r) (ap (λ (w : View). w.commits) after))
       (ap (λ (k : Move). k.sent) r)

@@ -14,7 +14,7 @@ use Rattle.zy_table.specs.State.{View, NodeState, Move, Txn}
 use Rattle.zy_table.specs.Change.{quiet, txn_at}
 use Rattle.zy_table.specs.Run.{run_step}
 use Rattle.zy_table.specs.Play.{move}
-use Rattle.zy_frames.specs.Reads.{uncounted, SameMove}
+use Rattle.zy_frames.specs.Reads.{uncounted}
 use Rattle.zy_frames.proofs.SetTxns.{set_in}
 use Rattle.zy_frames.proofs.SameMoves.{move_same, move_changes}
 use Rattle.zy_commute.proofs.DidRuns.{put}
@@ -56,13 +56,13 @@ carried sc n t v w y ls many me txn e =
     let c = move_changes sc (Run n t) w in
     let x = run_step sc n t w in
     let own : x.after.me ≡ record w.me { locks = ls } =
-        sym k.me ∙ (ap (λ (m : Move). m.after.me) e ∙ ap (λ (z : NodeState). record z { locks = ls }) me) in
+    sym k.me ∙ (ap (λ (m : Move). m.after.me) e ∙ ap (λ (z : NodeState). record z { locks = ls }) me) in
     let box : x.after.outbox ≡ w.outbox =
-        left v.outbox w.outbox _ k.posts.0 (sym (ap (λ (m : Move). m.after.outbox) e) ∙ k.posts.1.0) k.posts.1.1 in
+    left v.outbox w.outbox _ k.posts.0 (sym (ap (λ (m : Move). m.after.outbox) e) ∙ k.posts.1.0) k.posts.1.1 in
     let commits : x.after.commits ≡ w.commits =
-        left v.commits w.commits _ k.commits.0 (sym (ap (λ (m : Move). m.after.commits) e) ∙ k.commits.1.0) k.commits.1.1 in
+    left v.commits w.commits _ k.commits.0 (sym (ap (λ (m : Move). m.after.commits) e) ∙ k.commits.1.0) k.commits.1.1 in
     let one : slice_set w.txns t (txn_at x.after t) ≡ slice_set w.txns t y =
-        ap (slice_set w.txns t) (sym k.txn ∙ ap (λ (m : Move). txn_at m.after t) e) ∙ sym (set_in v.txns w.txns t y many) in
+    ap (slice_set w.txns t) (sym k.txn ∙ ap (λ (m : Move). txn_at m.after t) e) ∙ sym (set_in v.txns w.txns t y many) in
     same_parts x w (record w.me { locks = ls }) (slice_set w.txns t y) outcome.Did
     (c ∙ ap (λ (zs : List Txn). record w { me = x.after.me; txns = zs; outbox = x.after.outbox; commits = x.after.commits }) one)
     own box commits (is_did x.outcome (ap (λ (m : Move). uncounted m.outcome) (sym e) ∙ k.outcome)) (sym k.sent ∙ ap (λ (m : Move). m.sent) e)

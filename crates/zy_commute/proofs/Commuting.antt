@@ -1,5 +1,5 @@
 -- A run whose outcome is `did` may come first.
-use Rattle.std.proofs.Common.{◌≡◌, ◌∙◌, ℕ, List, [], ◌∷◌, ◌++◌, length, refl, sym, ap, subst, None}
+use Rattle.std.proofs.Common.{◌≡◌, ◌∙◌, ℕ, List, [], ◌∷◌, length, refl, sym, ap, subst, None}
 use Rattle.zy_isa.specs.declared.node.Node.{Node}
 use Rattle.zy_isa.specs.declared.node.Node.TheVariants.{A, B}
 use Rattle.zy_isa.specs.declared.choice.Choice.{Choice}
@@ -8,15 +8,13 @@ use Rattle.zy_isa.specs.Scenario.{Scenario}
 use Rattle.zy_model.specs.declared.lock.Lock.{Lock}
 use Rattle.zy_model.specs.Order.{LocksRise}
 use Rattle.zy_table.specs.declared.entry.Entry.{Entry}
-use Rattle.zy_table.specs.declared.outcome.Outcome.{Outcome}
 use Rattle.zy_table.specs.declared.outcome.Outcome.TheVariants.{Did}
-use Rattle.zy_table.specs.State.{State, View, NodeState, Move, Step, Txn, facing, seen_from, as_step}
-use Rattle.zy_table.specs.Change.{quiet, txn_at}
-use Rattle.zy_table.specs.Run.{run_step}
+use Rattle.zy_table.specs.State.{State, NodeState, Step, Txn, facing, as_step}
+use Rattle.zy_table.specs.Change.{txn_at}
 use Rattle.zy_table.specs.Play.{move, step, side_of, play, entry_of, entries}
 use Rattle.zy_frames.proofs.Rest.{step_leaves}
-use Rattle.zy_commute.specs.Commute.{Does, IsApart, AreApart, MayComeFirst, Stays}
-use Rattle.zy_commute.proofs.DidRuns.{Went, relocked, put, did_went, stands}
+use Rattle.zy_commute.specs.Commute.{Does, IsApart, AreApart, MayComeFirst}
+use Rattle.zy_commute.proofs.DidRuns.{relocked, did_went, stands}
 use Rattle.zy_commute.proofs.Carried.{carried}
 use Rattle.zy_commute.proofs.Passes.{Passes, moved, apart_passes}
 
@@ -55,7 +53,7 @@ module _ (sc : Scenario) (n : Node) (t : ℕ) where
       let w = facing n r in
       let went = did_went t p.on_locks p.fair v does.locks sc n does.outcome in
       let many : length v.txns ≡ length w.txns =
-          ap length (facing_txns n s) ∙ (sym (many_step sc c s) ∙ ap length (sym (facing_txns n r))) in
+      ap length (facing_txns n s) ∙ (sym (many_step sc c s) ∙ ap length (sym (facing_txns n r))) in
       let after = carried sc n t (relocked (p.on_locks v.me.locks) v) w went.txn (p.on_locks went.locks) many (sym p.me) (sym p.txn) went.second in
       let again = ap (as_step n) after in
       record {

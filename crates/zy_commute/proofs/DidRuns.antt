@@ -9,8 +9,6 @@ use Rattle.zy_isa.specs.declared.instr.Reg.{Reg}
 use Rattle.zy_isa.specs.declared.instr.Instr.{Instr}
 use Rattle.zy_isa.specs.Scenario.{Scenario}
 use Rattle.zy_model.specs.declared.lock.Lock.{Lock}
-use Rattle.zy_model.specs.declared.lock.LockKind.{LockKind}
-use Rattle.zy_model.specs.declared.lock.LockKind.TheVariants.{Shared}
 use Rattle.zy_model.specs.Locks.{add_lock, conflict}
 use Rattle.zy_model.specs.Order.{LocksRise}
 use Rattle.zy_model.specs.Table.{may_split, may_pull, is_waiting}
@@ -29,7 +27,7 @@ use Rattle.zy_table.specs.Change.{quiet, txn_at, with_txn, did, locked, share_al
 use Rattle.zy_table.specs.Effects.{effect_of}
 use Rattle.zy_table.specs.Client.{is_active}
 use Rattle.zy_table.specs.Run.{same_node, abort_step, set_step, jump_step, commit_or_gone, commit_step, absent_step, read_step, is_there, write_step}
-use Rattle.zy_table.specs.Run.{has_room, full_step, split_step, insert_step, lock_of, access_step, page_step, key_step, sum_step, first_taken, sum_or_waits}
+use Rattle.zy_table.specs.Run.{has_room, full_step, split_step, insert_step, lock_of, access_step, page_step, key_step, sum_step, sum_or_waits}
 use Rattle.zy_table.specs.Run.{sum_or_asks, range_step, effect_step, instr_step, run_step}
 use Rattle.zy_commute.specs.Commute.{Stays}
 use Rattle.zy_commute.proofs.FewerLocks.{IsFair, shares_fair, free_fair}

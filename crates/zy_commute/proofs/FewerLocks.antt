@@ -1,7 +1,7 @@
 -- A transaction takes its locks where another's are dropped.
-use Rattle.std.proofs.Common.{◌≡◌, ◌∙◌, ℕ, List, [], ◌∷◌, refl, sym, ap, arith, subst, Bool, true, false, not, Option, Some, None, cond}
-use Rattle.std.specs.Prelude.{◌==◌, ◌&&◌, ◌||◌, nat_lt, if◌then◌else◌}
-use Rattle.std.proofs.lemmas.Bool.{and_parts, cond_both, eqb-true, false≢true, ne_eqb, not-false, or_from, or_parts}
+use Rattle.std.proofs.Common.{◌≡◌, ◌∙◌, ℕ, List, [], ◌∷◌, refl, sym, ap, arith, subst, Bool, true, false, not, Some, None, cond}
+use Rattle.std.specs.Prelude.{◌==◌, ◌&&◌, ◌||◌, nat_lt}
+use Rattle.std.proofs.lemmas.Bool.{and_parts, cond_both, eqb-true, ne_eqb, or_from, or_parts}
 use Rattle.std.proofs.lemmas.Bool.Decides.{nat_tests}
 use Rattle.zy_model.specs.declared.lock.Lock.{Lock}
 use Rattle.zy_model.specs.declared.lock.LockKind.{LockKind}

@@ -19,7 +19,7 @@ use Rattle.zy_table.specs.declared.outcome.Outcome.TheVariants as outcome
 use Rattle.zy_table.specs.State.{View, Move}
 use Rattle.zy_table.specs.Numbers.{has}
 use Rattle.zy_table.specs.Pages.{owns}
-use Rattle.zy_table.specs.Change.{txn_at, committed, locked, shares}
+use Rattle.zy_table.specs.Change.{txn_at, committed, locked}
 use Rattle.zy_table.specs.Effects.{effect_of}
 use Rattle.zy_table.specs.Client.{is_active}
 use Rattle.zy_table.specs.Run.{same_node, abort_step, set_step, jump_step, commit_or_gone, commit_step, absent_step, read_step, is_there, write_step}

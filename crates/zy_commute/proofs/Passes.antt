@@ -1,6 +1,6 @@
 -- What a choice does where a node's run of t was made before it, which sets t and takes locks there.
 use Rattle.std.proofs.Common.{◌≡◌, ◌∙◌, ◌⊎◌, inl, inr, ℕ, List, [], length, refl, sym, ap, subst, Bool, true, false, cond}
-use Rattle.std.specs.Prelude.{slice_get, slice_set}
+use Rattle.std.specs.Prelude.{slice_set}
 use Rattle.std.proofs.lemmas.Bool.{cases_eq, false≢true}
 use Rattle.std.proofs.lemmas.List.{length-set}
 use Rattle.zy_isa.specs.declared.node.Node.{Node}
@@ -15,7 +15,7 @@ use Rattle.zy_table.specs.declared.outcome.Outcome.TheVariants as outcome
 use Rattle.zy_table.specs.declared.status.Status.{Status}
 use Rattle.zy_table.specs.declared.status.Status.TheVariants.{New, Active, Committed, Aborted}
 use Rattle.zy_table.specs.State.{State, View, NodeState, Move, Step, Txn, facing, seen_from, other, as_step}
-use Rattle.zy_table.specs.Change.{quiet, txn_at, txn_or, with_txn, aborted}
+use Rattle.zy_table.specs.Change.{quiet, txn_at, with_txn, aborted}
 use Rattle.zy_table.specs.Client.{is_active, is_new, begin_step, kill_step}
 use Rattle.zy_table.specs.Run.{same_node, run_step}
 use Rattle.zy_table.specs.Play.{move, side_of, step}
@@ -263,7 +263,7 @@ module _ (sc : Scenario) (n : Node) (t : ℕ) (s : State) where
   unfolding step move begin_step
   begins_own on =
       let idle : (r : State) → is_active (txn_at (facing A r) t).status ≡ true → step sc (Begin t) r ≡ as_step A (quiet (facing A r) outcome.Idle) =
-          λ r h. rw (has_begun _ h) refl in
+      λ r h. rw (has_begun _ h) refl in
       let at_a = ap (λ (x : Txn). is_active x.status) (at_side n s t ∙ sym (at_side A s t)) in
       let here = idle s (sym at_a ∙ on) in
       record {
@@ -324,8 +324,10 @@ module _ (sc : Scenario) (n : Node) (t : ℕ) (s : State) where
         let w = put t y ls v in
         let q : txn_at w u ≡ txn_at v u = at_other v w t u y refl far in
         killed true w (ap (λ (x : Txn). is_active x.status) q ∙ e)
-        ∙ (ap (λ (x : Txn). quiet (record w { me = record v.me { locks = drop_locks u ls };
-        txns = slice_set w.txns u (record x { status = Aborted why.Killed; rows = [] }) }) (outcome.Aborted why.Killed)) q
+        ∙ (ap (λ (x : Txn). quiet (record w {
+          me = record v.me { locks = drop_locks u ls };
+          txns = slice_set w.txns u (record x { status = Aborted why.Killed; rows = [] });
+        }) (outcome.Aborted why.Killed)) q
         ∙ (ap (λ (zs : List Txn). quiet (record w { me = record v.me { locks = drop_locks u ls }; txns = zs }) (outcome.Aborted why.Killed))
         (set_swap v.txns t u y (record (txn_at v u) { status = Aborted why.Killed; rows = [] }) far)
         ∙ sym (ap (λ (k : Move). record k { after = put t y (drop_locks u ls) k.after }) (killed true v e))))
