@@ -3,7 +3,7 @@ use Rattle.std.proofs.Common.{◌≡◌, ◌∙◌, ℕ, List, [], ◌∷◌, re
 use Rattle.std.specs.Prelude.{slice_set}
 use Rattle.std.proofs.lemmas.List.{length-set}
 use Rattle.zy_isa.specs.declared.node.Node.{Node}
-use Rattle.zy_isa.specs.declared.choice.Choice.TheVariants.{Kill, Run, Finish, Push}
+use Rattle.zy_isa.specs.declared.choice.Choice.TheVariants.{Start, Kill, Run, Finish, Push}
 use Rattle.zy_isa.specs.Scenario.{Scenario}
 use Rattle.zy_model.specs.Messages.{Message}
 use Rattle.zy_model.specs.declared.kind.Kind.{Kind}
@@ -11,14 +11,14 @@ use Rattle.zy_table.specs.declared.outcome.Outcome.{Outcome}
 use Rattle.zy_table.specs.declared.outcome.Outcome.TheVariants as outcome
 use Rattle.zy_table.specs.State.{View, NodeState, Move, Txn}
 use Rattle.zy_table.specs.Change.{quiet, txn_at}
-use Rattle.zy_table.specs.Client.{is_active, kill_step}
+use Rattle.zy_table.specs.Client.{is_active, start_step, kill_step}
 use Rattle.zy_table.specs.Run.{same_node, run_step}
 use Rattle.zy_table.specs.Take.{front_step, take_step}
 use Rattle.zy_table.specs.Push.{finish_step, push_step}
 use Rattle.zy_table.specs.Play.{move}
 use Rattle.zy_laws.proofs.walk.Txns.{at_other, at_self}
 use Rattle.zy_frames.proofs.RunReads.{runs}
-use Rattle.zy_frames.proofs.StepReads.{beside_move, finishes, kills, pushes, takes_first}
+use Rattle.zy_frames.proofs.StepReads.{beside_move, finishes, kills, pushes, starts, takes_first}
 use Rattle.zy_frames.proofs.SameMoves.{move_changes}
 use Rattle.zy_commute.specs.Commute.{Stays}
 use Rattle.zy_commute.proofs.SetTwo.{set_swap, active_stays}
@@ -80,7 +80,7 @@ module _ (t : ℕ) (y : Txn) (z : NodeState) where
       (ap (λ (x : Txn). same_node x.node m) now ∙ (ap (λ (k : Node). same_node k m) stays.node ∙ off))
       ∙ sym (ap aside_move (elsewhere sc m v on off))
 
-  -- ---- a finish, a push
+  -- ---- a start, a finish, a push
 
   -- a link as it is
   abbrev link : List Message → List Message
@@ -92,6 +92,12 @@ module _ (t : ℕ) (y : Txn) (z : NodeState) where
   settles v x c =
       ap (λ (w : View). record x { after = record w { them = z; txns = slice_set v.txns t y; commits = v.commits } }) c
       ∙ sym (ap (λ (w : View). record x { after = aside w }) c)
+
+  -- a start, where the other node is in the mode that it was in
+  pub starts_aside : (sc : Scenario) (v : View) → z.mode ≡ v.them.mode → start_step (aside v) ≡ aside_move (start_step v)
+  unfolding move
+  starts_aside sc v mode =
+      starts z link [] (slice_set v.txns t y) v.commits v mode ∙ settles v (start_step v) (move_changes sc Start v)
 
   -- a finish
   pub finishes_aside : (sc : Scenario) (m : Node) (v : View) → Stays (txn_at v t) y → finish_step m (aside v) ≡ aside_move (finish_step m v)

@@ -14,7 +14,7 @@ use Rattle.zy_table.specs.Change.{txn_at}
 use Rattle.zy_table.specs.Play.{move, step, side_of, play, entry_of, entries}
 use Rattle.zy_frames.proofs.Rest.{step_leaves}
 use Rattle.zy_commute.specs.Commute.{Does, IsApart, AreApart, MayComeFirst}
-use Rattle.zy_commute.proofs.DidRuns.{relocked, did_went, stands}
+use Rattle.zy_commute.proofs.DidRuns.{moded, relocked, did_went, stands}
 use Rattle.zy_commute.proofs.Carried.{carried}
 use Rattle.zy_commute.proofs.Passes.{Passes, moved, apart_passes}
 
@@ -51,10 +51,11 @@ module _ (sc : Scenario) (n : Node) (t : ℕ) where
       let v = facing n s in
       let r = (step sc c s).after in
       let w = facing n r in
-      let went = did_went t p.on_locks p.fair v does.locks sc n does.outcome in
+      let running = stands sc n t v does.outcome in
+      let went = did_went t p.on_locks p.fair p.mode (p.awake running.awake) v does.locks sc n does.outcome in
       let many : length v.txns ≡ length w.txns =
       ap length (facing_txns n s) ∙ (sym (many_step sc c s) ∙ ap length (sym (facing_txns n r))) in
-      let after = carried sc n t (relocked (p.on_locks v.me.locks) v) w went.txn (p.on_locks went.locks) many (sym p.me) (sym p.txn) went.second in
+      let after = carried sc n t (relocked (p.on_locks v.me.locks) (moded p.mode v)) w went.txn (p.on_locks went.locks) many (sym p.me) (sym p.txn) went.second in
       let again = ap (as_step n) after in
       record {
         txn = went.txn;
@@ -74,7 +75,7 @@ module _ (sc : Scenario) (n : Node) (t : ℕ) where
   unfolding step move
   swaps s c does apart =
       let at = stands sc n t (facing n s) does.outcome in
-      twice s c does (apart_passes sc n t s at.0 at.1 c apart)
+      twice s c does (apart_passes sc n t s at.active at.here c apart)
 
   -- the state after both
   swapped : (s : State) (c : Choice) → Twice sc n t s c → (step sc c (step sc (Run n t) s).after).after ≡ (step sc (Run n t) (step sc c s).after).after

@@ -1,7 +1,7 @@
 -- What a choice does where a node's run of t was made before it, which sets t and takes locks there.
 use Rattle.std.proofs.Common.{◌≡◌, ◌∙◌, ◌⊎◌, inl, inr, ℕ, List, [], length, refl, sym, ap, subst, Bool, true, false, cond}
 use Rattle.std.specs.Prelude.{slice_set}
-use Rattle.std.proofs.lemmas.Bool.{cases_eq, false≢true}
+use Rattle.std.proofs.lemmas.Bool.{cases_eq, cond_both, false≢true}
 use Rattle.std.proofs.lemmas.List.{length-set}
 use Rattle.zy_isa.specs.declared.node.Node.{Node}
 use Rattle.zy_isa.specs.declared.node.Node.TheVariants.{A, B}
@@ -10,13 +10,15 @@ use Rattle.zy_isa.specs.declared.choice.Choice.TheVariants.{Start, Begin, Kill, 
 use Rattle.zy_isa.specs.Scenario.{Scenario}
 use Rattle.zy_model.specs.declared.lock.Lock.{Lock}
 use Rattle.zy_model.specs.Locks.{drop_locks}
+use Rattle.zy_model.specs.Table.{is_waiting, may_start}
+use Rattle.zy_model.specs.declared.mode.NodeMode.{NodeMode}
 use Rattle.zy_table.specs.declared.outcome.Why.TheVariants as why
 use Rattle.zy_table.specs.declared.outcome.Outcome.TheVariants as outcome
 use Rattle.zy_table.specs.declared.status.Status.{Status}
 use Rattle.zy_table.specs.declared.status.Status.TheVariants.{New, Active, Committed, Aborted}
 use Rattle.zy_table.specs.State.{State, View, NodeState, Move, Step, Txn, facing, seen_from, other, as_step}
 use Rattle.zy_table.specs.Change.{quiet, txn_at, with_txn, aborted}
-use Rattle.zy_table.specs.Client.{is_active, is_new, begin_step, kill_step}
+use Rattle.zy_table.specs.Client.{is_active, is_new, start_step, begin_step, kill_step}
 use Rattle.zy_table.specs.Run.{same_node, run_step}
 use Rattle.zy_table.specs.Play.{move, side_of, step}
 use Rattle.zy_laws.proofs.walk.Txns.{at_other, at_self, at_side}
@@ -27,7 +29,7 @@ use Rattle.zy_commute.specs.Commute.{IsApart, Stays}
 use Rattle.zy_commute.proofs.FewerLocks.{IsFair, same, same_fair, drop_fair}
 use Rattle.zy_commute.proofs.DidRuns.{put}
 use Rattle.zy_commute.proofs.SetTwo.{set_swap}
-use Rattle.zy_commute.proofs.Asides.{aside, aside_move, runs_aside, elsewhere, runs_elsewhere, finishes_aside, pushes_aside, takes_aside, kills_aside}
+use Rattle.zy_commute.proofs.Asides.{aside, aside_move, runs_aside, elsewhere, runs_elsewhere, starts_aside, finishes_aside, pushes_aside, takes_aside, kills_aside}
 
 -- a state where transaction t and the locks of node n are others
 abbrev pub moved : Node → ℕ → Txn → List Lock → State → State
@@ -37,12 +39,14 @@ moved n t y ls s = seen_from n (put t y ls (facing n s))
 abbrev pub moved_step : Node → ℕ → Txn → List Lock → Step → Step
 moved_step n t y ls x = record x { after = moved n t y ls x.after }
 
--- A choice leaves t and node n, but for locks, to which it does what is fair to t. Where t and the locks of n are others
--- it does the same.
+-- A choice leaves t and node n, but for its mode, which stays one in which transactions run, and for locks, to which it
+-- does what is fair to t. Where t and the locks of n are others it does the same.
 pub record Passes (sc : Scenario) (n : Node) (t : ℕ) (s : State) (c : Choice) : Type 0 where
+  pub mode : NodeMode
+  pub awake : is_waiting (facing n s).me.mode ≡ false → is_waiting mode ≡ false
   pub on_locks : List Lock → List Lock
   pub fair : IsFair t on_locks
-  pub me : (facing n (step sc c s).after).me ≡ record (facing n s).me { locks = on_locks (facing n s).me.locks }
+  pub me : (facing n (step sc c s).after).me ≡ record (facing n s).me { mode = mode; locks = on_locks (facing n s).me.locks }
   pub txn : txn_at (facing n (step sc c s).after) t ≡ txn_at (facing n s) t
   pub step : (y : Txn) (ls : List Lock) → Stays (txn_at (facing n s) t) y
       → step sc c (moved n t y ls s) ≡ moved_step n t y (on_locks ls) (step sc c s)
@@ -136,6 +140,11 @@ moved_far_mode : (n : Node) (t : ℕ) (y : Txn) (ls : List Lock) (s : State) →
 moved_far_mode A t y ls s = refl
 moved_far_mode B t y ls s = refl
 
+-- a start is made from the side that it was made from
+start_side : (sc : Scenario) (n : Node) (t : ℕ) (y : Txn) (ls : List Lock) (s : State) → side_of sc Start (moved n t y ls s) ≡ side_of sc Start s
+start_side sc A t y ls s = refl
+start_side sc B t y ls s = refl
+
 -- a state where transaction u is set
 abbrev with_one : ℕ → Txn → State → State
 with_one u x s = seen_from A (with_txn u x (facing A s))
@@ -160,7 +169,7 @@ with_one_txn B t u x s far = at_other (facing B s) (facing B (with_one u x s)) u
 pub record Far (sc : Scenario) (t : ℕ) (c : Choice) (v : View) : Type 0 where
   pub them : (move sc c v).after.them ≡ v.them
   pub txn : txn_at (move sc c v).after t ≡ txn_at v t
-  pub beside : (y : Txn) (z : NodeState) → Stays (txn_at v t) y → move sc c (aside t y z v) ≡ aside_move t y z (move sc c v)
+  pub beside : (y : Txn) (z : NodeState) → Stays (txn_at v t) y → z.mode ≡ v.them.mode → move sc c (aside t y z v) ≡ aside_move t y z (move sc c v)
 
 module _ (sc : Scenario) (n : Node) (t : ℕ) (s : State) where
   -- a choice of the other side
@@ -173,6 +182,8 @@ module _ (sc : Scenario) (n : Node) (t : ℕ) (s : State) where
       let here : step sc c s ≡ as_step (other n) m = ap (λ (k : Node). as_step k (move sc c (facing k s))) side in
       let me : m.after.them ≡ (facing n s).me = far.them ∙ seen_me n s in
       record {
+        mode = (facing n s).me.mode;
+        awake = λ e. e;
         on_locks = same;
         fair = same_fair t;
         me = ap (λ (x : Step). (facing n x.after).me) here ∙ (far_me n m.after ∙ me);
@@ -182,7 +193,8 @@ module _ (sc : Scenario) (n : Node) (t : ℕ) (s : State) where
             let z = record (facing n s).me { locks = ls } in
             ap (λ (k : Node). as_step k (move sc c (facing k u))) (sides y ls)
             ∙ (ap (λ (w : View). as_step (other n) (move sc c w)) (far_view n t y ls s)
-            ∙ (ap (as_step (other n)) (far.beside y z (subst (λ (x : Txn). Stays x y) (sym (seen_txn n t s)) stays))
+            ∙ (ap (as_step (other n)) (far.beside y z (subst (λ (x : Txn). Stays x y) (sym (seen_txn n t s)) stays)
+            (ap (λ (x : NodeState). x.mode) (sym (seen_me n s))))
             ∙ (ap (λ (r : State). record { after = r; outcome = m.outcome; sent = m.sent }) (far_state n t y ls (facing n s).me m.after me)
             ∙ ap (moved_step n t y ls) (sym here))));
       }
@@ -198,7 +210,7 @@ module _ (sc : Scenario) (n : Node) (t : ℕ) (s : State) where
         record {
           them = ap (λ (w : View). w.them) c;
           txn = at_other v (run_step sc m u v).after u t _ (ap (λ (w : View). w.txns) c) (λ e. far (sym e));
-          beside = λ y z _. runs_aside t y z sc m u v far;
+          beside = λ y z _ _. runs_aside t y z sc m u v far;
         }
 
     -- a run of t, which is active elsewhere
@@ -209,7 +221,18 @@ module _ (sc : Scenario) (n : Node) (t : ℕ) (s : State) where
         record {
           them = ap (λ (k : Move). k.after.them) e;
           txn = ap (λ (k : Move). txn_at k.after t) e;
-          beside = λ y z stays. runs_elsewhere t y z sc m v on off stays;
+          beside = λ y z stays _. runs_elsewhere t y z sc m v on off stays;
+        }
+
+    -- a start
+    far_start : Far sc t Start v
+    unfolding move txn_at
+    far_start =
+        let c = move_changes sc Start v in
+        record {
+          them = ap (λ (w : View). w.them) c;
+          txn = ap (λ (w : View). txn_at w t) c;
+          beside = λ y z _ mode. starts_aside t y z sc v mode;
         }
 
     -- a take
@@ -220,7 +243,7 @@ module _ (sc : Scenario) (n : Node) (t : ℕ) (s : State) where
         record {
           them = ap (λ (w : View). w.them) c;
           txn = ap (λ (w : View). txn_at w t) c;
-          beside = λ y z _. takes_aside t y z sc v;
+          beside = λ y z _ _. takes_aside t y z sc v;
         }
 
     -- a finish
@@ -231,7 +254,7 @@ module _ (sc : Scenario) (n : Node) (t : ℕ) (s : State) where
         record {
           them = ap (λ (w : View). w.them) c;
           txn = ap (λ (w : View). txn_at w t) c;
-          beside = λ y z stays. finishes_aside t y z sc m v stays;
+          beside = λ y z stays _. finishes_aside t y z sc m v stays;
         }
 
     -- a push
@@ -242,7 +265,7 @@ module _ (sc : Scenario) (n : Node) (t : ℕ) (s : State) where
         record {
           them = ap (λ (w : View). w.them) c;
           txn = ap (λ (w : View). txn_at w t) c;
-          beside = λ y z _. pushes_aside t y z sc m v;
+          beside = λ y z _ _. pushes_aside t y z sc m v;
         }
 
     -- a kill of another transaction
@@ -253,7 +276,7 @@ module _ (sc : Scenario) (n : Node) (t : ℕ) (s : State) where
         record {
           them = ap (λ (w : View). w.them) c;
           txn = at_other v (kill_step u v).after u t _ (ap (λ (w : View). w.txns) c) (λ e. far (sym e));
-          beside = λ y z _. kills_aside t y z sc u v far;
+          beside = λ y z _ _. kills_aside t y z sc u v far;
         }
 
   -- ---- a begin, which is seen from A
@@ -267,6 +290,8 @@ module _ (sc : Scenario) (n : Node) (t : ℕ) (s : State) where
       let at_a = ap (λ (x : Txn). is_active x.status) (at_side n s t ∙ sym (at_side A s t)) in
       let here = idle s (sym at_a ∙ on) in
       record {
+        mode = (facing n s).me.mode;
+        awake = λ e. e;
         on_locks = same;
         fair = same_fair t;
         me = ap (λ (x : Step). (facing n x.after).me) here;
@@ -286,6 +311,8 @@ module _ (sc : Scenario) (n : Node) (t : ℕ) (s : State) where
       let x = txn_at m.after u in
       let c : seen_from A m.after ≡ with_one u x s = ap (seen_from A) (move_changes sc (Begin u) v) in
       record {
+        mode = (facing n s).me.mode;
+        awake = λ e. e;
         on_locks = same;
         fair = same_fair t;
         me = ap (λ (r : State). (facing n r).me) c ∙ with_one_me n u x s;
@@ -296,6 +323,70 @@ module _ (sc : Scenario) (n : Node) (t : ℕ) (s : State) where
             ∙ ap (λ (r : State). record { after = r; outcome = m.outcome; sent = m.sent })
             (moved_with n t u y x ls s far ∙ ap (moved n t y ls) (sym c));
       }
+
+  -- ---- a start at n
+
+  -- the view of n
+  near_view : (y : Txn) (ls : List Lock) → facing n (moved n t y ls s) ≡ put t y ls (facing n s)
+  near_view y ls = face n (put t y ls (facing n s))
+
+  -- the state of such a view
+  near_state : (y : Txn) (ls : List Lock) (w : View) → seen_from n (put t y ls w) ≡ moved n t y ls (seen_from n w)
+  near_state y ls w = ap (λ (v : View). seen_from n (put t y ls v)) (sym (face n w))
+
+  -- where t and locks are others
+  starts_put : (v : View) (y : Txn) (ls : List Lock) → start_step (put t y ls v) ≡ record (start_step v) { after = put t y ls (start_step v).after }
+  unfolding start_step
+  starts_put v y ls = put_both (may_start v.me.mode v.them.mode) _ _
+    where
+      put_both : (b : Bool) (m k : Move) → cond b (record m { after = put t y ls m.after }) (record k { after = put t y ls k.after })
+          ≡ record (cond b m k) { after = put t y ls (cond b m k).after }
+      put_both true m k = refl
+      put_both false m k = refl
+
+  -- the node after it
+  starts_me : (v : View) → (start_step v).after.me ≡ record v.me { mode = (start_step v).after.me.mode }
+  unfolding start_step
+  starts_me v =
+      cond_both (may_start v.me.mode v.them.mode) _ _ (λ (m : Move). m.after.me ≡ record v.me { mode = m.after.me.mode }) (λ _. refl) (λ _. refl)
+
+  -- its mode
+  starts_awake : (v : View) → is_waiting v.me.mode ≡ false → is_waiting (start_step v).after.me.mode ≡ false
+  unfolding start_step
+  starts_awake v e =
+      cond_both (may_start v.me.mode v.them.mode) _ _ (λ (m : Move). is_waiting m.after.me.mode ≡ false) (λ _. refl) (λ _. e)
+
+  -- a start at n
+  starts_near : side_of sc Start s ≡ n → ((y : Txn) (ls : List Lock) → side_of sc Start (moved n t y ls s) ≡ n) → Passes sc n t s Start
+  unfolding step move txn_at
+  starts_near side sides =
+      let v = facing n s in
+      let m = start_step v in
+      let c = move_changes sc Start v in
+      let here : step sc Start s ≡ as_step n m = ap (λ (k : Node). as_step k (start_step (facing k s))) side in
+      let back = ap (λ (x : Step). facing n x.after) here ∙ face n m.after in
+      record {
+        mode = m.after.me.mode;
+        awake = starts_awake v;
+        on_locks = same;
+        fair = same_fair t;
+        me = ap (λ (w : View). w.me) back ∙ starts_me v;
+        txn = ap (λ (w : View). txn_at w t) back ∙ ap (λ (w : View). txn_at w t) c;
+        step = λ y ls _.
+            let r = moved n t y ls s in
+            ap (λ (k : Node). as_step k (start_step (facing k r))) (sides y ls)
+            ∙ (ap (λ (w : View). as_step n (start_step w)) (near_view y ls)
+            ∙ (ap (as_step n) (starts_put v y ls)
+            ∙ (ap (λ (z : State). record { after = z; outcome = m.outcome; sent = m.sent }) (near_state y ls m.after)
+            ∙ ap (moved_step n t y ls) (sym here))));
+      }
+
+  -- a start
+  starts_passes : Passes sc n t s Start
+  starts_passes = elim (either (side_of sc Start s) n) [
+    | inl e ↦ starts_near e (λ y ls. start_side sc n t y ls s ∙ e)
+    | inr e ↦ far_passes Start e (λ y ls. start_side sc n t y ls s ∙ e) (far_start (facing (other n) s))
+  ]
 
   -- ---- a kill of a transaction at n
 
@@ -343,14 +434,6 @@ module _ (sc : Scenario) (n : Node) (t : ℕ) (s : State) where
     kills_me true v e = ap (λ (k : Move). k.after.me) (killed true v e)
     kills_me false v e = ap (λ (k : Move). k.after.me) (killed false v e)
 
-    -- the view of n
-    near_view : (y : Txn) (ls : List Lock) → facing n (moved n t y ls s) ≡ put t y ls (facing n s)
-    near_view y ls = face n (put t y ls (facing n s))
-
-    -- the state of such a view
-    near_state : (y : Txn) (ls : List Lock) (w : View) → seen_from n (put t y ls w) ≡ moved n t y ls (seen_from n w)
-    near_state y ls w = ap (λ (v : View). seen_from n (put t y ls v)) (sym (face n w))
-
     -- a kill at n
     kills_near : side_of sc (Kill u) s ≡ n → ((y : Txn) (ls : List Lock) → side_of sc (Kill u) (moved n t y ls s) ≡ n) → Passes sc n t s (Kill u)
     unfolding step move
@@ -362,6 +445,8 @@ module _ (sc : Scenario) (n : Node) (t : ℕ) (s : State) where
         let here : step sc (Kill u) s ≡ as_step n m = ap (λ (k : Node). as_step k (kill_step u (facing k s))) side in
         let back = ap (λ (x : Step). facing n x.after) here ∙ face n m.after in
         record {
+          mode = v.me.mode;
+          awake = λ e. e;
           on_locks = dropped b;
           fair = dropped_fair b;
           me = ap (λ (w : View). w.me) back ∙ kills_me b v refl;
@@ -410,7 +495,7 @@ module _ (sc : Scenario) (n : Node) (t : ℕ) (s : State) where
 
     -- each choice that is apart
     pub apart_passes : (c : Choice) → IsApart n t c → Passes sc n t s c
-    apart_passes Start h = absurd h
+    apart_passes Start h = starts_passes
     apart_passes (Begin u) h = begins_passes u
     apart_passes (Kill u) h = kills_passes u h
     apart_passes (Run m u) h = subst (λ (k : Node). Passes sc n t s (Run k u)) (sym h) (run_passes u)

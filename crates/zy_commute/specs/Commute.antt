@@ -14,9 +14,9 @@ pub record Does (sc : Scenario) (n : Node) (t : ℕ) (s : State) : Type 0 where
   pub locks : LocksRise (facing n s).me.locks
   pub outcome : (step sc (Run n t) s).outcome ≡ Did
 
--- a choice of the other node than n, a begin, or a kill of another transaction than t
+-- a choice of the other node than n, a start, a begin, or a kill of another transaction than t
 abbrev pub IsApart : Node → ℕ → Choice → Type 0
-IsApart n t Start = ⊥
+IsApart n t Start = Unit {0}
 IsApart n t (Begin u) = Unit {0}
 IsApart n t (Kill u) = u ≡ t → ⊥
 IsApart n t (Run m u) = m ≡ other n
