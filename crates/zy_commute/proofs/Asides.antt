@@ -1,5 +1,5 @@
 -- A choice of one node does the same where the other node and a transaction that it does not read are others.
-use Rattle.std.proofs.Common.{◌≡◌, ◌∙◌, ℕ, List, [], ◌∷◌, refl, sym, ap, true, false, Option}
+use Rattle.std.proofs.Common.{◌≡◌, ◌∙◌, ℕ, List, [], ◌∷◌, inl, inr, refl, sym, ap, true, false, Option}
 use Rattle.std.specs.Prelude.{slice_set}
 use Rattle.std.proofs.lemmas.List.{length-set}
 use Rattle.zy_isa.specs.declared.node.Node.{Node}
@@ -16,7 +16,7 @@ use Rattle.zy_table.specs.Run.{same_node, run_step}
 use Rattle.zy_table.specs.Take.{front_step, take_step}
 use Rattle.zy_table.specs.Push.{finish_step, push_step}
 use Rattle.zy_table.specs.Play.{move}
-use Rattle.zy_laws.proofs.walk.Txns.{at_other, at_self}
+use Rattle.zy_laws.proofs.walk.Txns.{at_either, at_other}
 use Rattle.zy_frames.proofs.RunReads.{runs}
 use Rattle.zy_frames.proofs.StepReads.{beside_move, finishes, kills, pushes, starts, takes_first}
 use Rattle.zy_frames.proofs.SameMoves.{move_changes}
@@ -65,20 +65,41 @@ module _ (t : ℕ) (y : Txn) (z : NodeState) where
       (same_outcome sc m m u u (aside v) v (ap (λ (k : Move). k.outcome) r) (ap (λ (w : View). w.commits) after))
       (ap (λ (k : Move). k.sent) r)
 
+  -- t has its status and its node
+  status_aside : (v : View) → Stays (txn_at v t) y → (txn_at (aside v) t).status ≡ (txn_at v t).status
+  status_aside v stays = elim (at_either v (aside v) t y refl) [
+    | inl e ↦ ap (λ (x : Txn). x.status) e ∙ stays.status
+    | inr e ↦ ap (λ (x : Txn). x.status) e
+  ]
+
+  node_aside : (v : View) → Stays (txn_at v t) y → (txn_at (aside v) t).node ≡ (txn_at v t).node
+  node_aside v stays = elim (at_either v (aside v) t y refl) [
+    | inl e ↦ ap (λ (x : Txn). x.node) e ∙ stays.node
+    | inr e ↦ ap (λ (x : Txn). x.node) e
+  ]
+
   -- a run of t, where it is active at another node
   pub elsewhere : (sc : Scenario) (m : Node) (v : View) → is_active (txn_at v t).status ≡ true → same_node (txn_at v t).node m ≡ false
       → run_step sc m t v ≡ quiet v outcome.Elsewhere
   unfolding run_step
   elsewhere sc m v on off = rw (on, off) refl
 
+  -- where it is active nowhere
+  pub idle : (sc : Scenario) (m : Node) (v : View) → is_active (txn_at v t).status ≡ false → run_step sc m t v ≡ quiet v outcome.Idle
+  unfolding run_step
+  idle sc m v off = rw off refl
+
   -- it is active there still
   pub runs_elsewhere : (sc : Scenario) (m : Node) (v : View) → is_active (txn_at v t).status ≡ true → same_node (txn_at v t).node m ≡ false → Stays (txn_at v t) y
       → run_step sc m t (aside v) ≡ aside_move (run_step sc m t v)
   runs_elsewhere sc m v on off stays =
-      let now = at_self v (aside v) t y refl on in
-      elsewhere sc m (aside v) (ap (λ (x : Txn). is_active x.status) now ∙ (ap is_active stays.status ∙ on))
-      (ap (λ (x : Txn). same_node x.node m) now ∙ (ap (λ (k : Node). same_node k m) stays.node ∙ off))
+      elsewhere sc m (aside v) (ap is_active (status_aside v stays) ∙ on) (ap (λ (k : Node). same_node k m) (node_aside v stays) ∙ off)
       ∙ sym (ap aside_move (elsewhere sc m v on off))
+
+  -- or nowhere still
+  pub runs_idle : (sc : Scenario) (m : Node) (v : View) → is_active (txn_at v t).status ≡ false → Stays (txn_at v t) y
+      → run_step sc m t (aside v) ≡ aside_move (run_step sc m t v)
+  runs_idle sc m v off stays = idle sc m (aside v) (ap is_active (status_aside v stays) ∙ off) ∙ sym (ap aside_move (idle sc m v off))
 
   -- ---- a start, a finish, a push
 

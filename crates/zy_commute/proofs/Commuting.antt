@@ -1,9 +1,10 @@
 -- A run whose outcome is `did` may come first.
-use Rattle.std.proofs.Common.{◌≡◌, ◌∙◌, ℕ, List, [], ◌∷◌, length, refl, sym, ap, subst, None}
+use Rattle.std.proofs.Common.{◌≡◌, ◌∙◌, ℕ, List, [], ◌∷◌, inl, inr, length, refl, sym, ap, subst, None}
+use Rattle.std.proofs.lemmas.Bool.{false≢true}
 use Rattle.zy_isa.specs.declared.node.Node.{Node}
 use Rattle.zy_isa.specs.declared.node.Node.TheVariants.{A, B}
 use Rattle.zy_isa.specs.declared.choice.Choice.{Choice}
-use Rattle.zy_isa.specs.declared.choice.Choice.TheVariants.{Run}
+use Rattle.zy_isa.specs.declared.choice.Choice.TheVariants.{Start, Kill, Run}
 use Rattle.zy_isa.specs.Scenario.{Scenario}
 use Rattle.zy_model.specs.declared.lock.Lock.{Lock}
 use Rattle.zy_model.specs.Order.{LocksRise}
@@ -13,10 +14,16 @@ use Rattle.zy_table.specs.State.{State, NodeState, Step, Txn, facing, as_step}
 use Rattle.zy_table.specs.Change.{txn_at}
 use Rattle.zy_table.specs.Play.{move, step, side_of, play, entry_of, entries}
 use Rattle.zy_frames.proofs.Rest.{step_leaves}
-use Rattle.zy_commute.specs.Commute.{Does, IsApart, AreApart, MayComeFirst}
+use Rattle.zy_commute.specs.Commute.{Does, AreOfOthers, MayComeFirst, Stays}
 use Rattle.zy_commute.proofs.DidRuns.{moded, relocked, did_went, stands}
 use Rattle.zy_commute.proofs.Carried.{carried}
-use Rattle.zy_commute.proofs.Passes.{Passes, moved, apart_passes}
+use Rattle.zy_commute.proofs.Unseen.{which, all_hide, killed_for_good}
+use Rattle.zy_commute.proofs.Passes.{Passes, IsApart, IsSettled, has_begun, moved, apart_passes}
+
+-- each choice of a list is apart
+abbrev AreApart : Node → ℕ → List Choice → Type 0
+AreApart n t [] = Unit {0}
+AreApart n t (c ∷ cs) = IsApart n t c × AreApart n t cs
 
 -- the transactions of a state are those of each view of it
 facing_txns : (n : Node) (s : State) → (facing n s).txns ≡ s.txns
@@ -38,6 +45,7 @@ record Twice (sc : Scenario) (n : Node) (t : ℕ) (s : State) (c : Choice) : Typ
   pub txn : Txn
   pub locks : List Lock
   pub others : List Lock
+  pub stays : Stays (txn_at (facing n s) t) txn
   pub first : step sc (Run n t) s ≡ did_step n t txn locks s
   pub second : step sc (Run n t) (step sc c s).after ≡ did_step n t txn others (step sc c s).after
   pub other : step sc c (moved n t txn locks s) ≡ record (step sc c s) { after = moved n t txn others (step sc c s).after }
@@ -61,6 +69,7 @@ module _ (sc : Scenario) (n : Node) (t : ℕ) where
         txn = went.txn;
         locks = went.locks;
         others = p.on_locks went.locks;
+        stays = went.stays;
         first = ap (as_step n) went.first;
         second = again;
         other = p.step went.txn went.locks went.stays;
@@ -70,12 +79,16 @@ module _ (sc : Scenario) (n : Node) (t : ℕ) where
         };
       }
 
+  -- t has begun, and is active at no other node
+  pub does_settled : (s : State) → Does sc n t s → IsSettled n t (facing n s)
+  unfolding step move
+  does_settled s does =
+      let at = stands sc n t (facing n s) does.outcome in
+      record { begun = has_begun _ at.active; own = λ _. at.here }
+
   -- one choice may be made behind
   swaps : (s : State) (c : Choice) → Does sc n t s → IsApart n t c → Twice sc n t s c
-  unfolding step move
-  swaps s c does apart =
-      let at = stands sc n t (facing n s) does.outcome in
-      twice s c does (apart_passes sc n t s at.active at.here c apart)
+  swaps s c does apart = twice s c does (apart_passes sc n t s (does_settled s does) c apart)
 
   -- the state after both
   swapped : (s : State) (c : Choice) → Twice sc n t s c → (step sc c (step sc (Run n t) s).after).after ≡ (step sc (Run n t) (step sc c s).after).after
@@ -94,7 +107,7 @@ module _ (sc : Scenario) (n : Node) (t : ℕ) where
   other_same s c k = ap (λ (x : Step). entry_of c (step sc c x.after)) k.first ∙ ap (entry_of c) k.other
 
   -- many may
-  pub comes_first : (s : State) (cs : List Choice) → Does sc n t s → AreApart n t cs → MayComeFirst sc s (Run n t) cs
+  comes_first : (s : State) (cs : List Choice) → Does sc n t s → AreApart n t cs → MayComeFirst sc s (Run n t) cs
   comes_first s [] does apart = record { after = refl; own = refl; others = refl }
   comes_first s (c ∷ cs) does apart =
       let k = swaps s c does apart.0 in
@@ -107,3 +120,34 @@ module _ (sc : Scenario) (n : Node) (t : ℕ) where
             ap (λ (e : Entry). e ∷ entries sc (step sc c (step sc (Run n t) s).after).after cs) (other_same s c k)
             ∙ ap (λ (es : List Entry). entry_of c (step sc c s) ∷ es) (ap (λ (r : State). entries sc r cs) there ∙ rest.others);
       }
+
+  -- behind a kill of t its outcome is another
+  not_killed : (s : State) (c : Choice) (cs : List Choice) → Does sc n t s → AreOfOthers n cs → c ≡ Kill t
+      → (step sc (Run n t) (play sc (step sc c s).after cs)).outcome ≡ Did → ⊥
+  unfolding step move
+  not_killed s c cs does far e did =
+      let at = stands sc n t (facing n s) does.outcome in
+      let end = play sc (step sc (Kill t) s).after cs in
+      let now = stands sc n t (facing n end) (subst (λ (k : Choice). (step sc (Run n t) (play sc (step sc k s).after cs)).outcome ≡ Did) e did) in
+      false≢true (sym (killed_for_good sc n t s cs at.active at.here far) ∙ now.active)
+
+  -- where the run's outcome is `did` behind choices of other actors, none of them kills t
+  are_apart : (s : State) (cs : List Choice) → Does sc n t s → AreOfOthers n cs → (step sc (Run n t) (play sc s cs)).outcome ≡ Did → AreApart n t cs
+  are_apart s [] does far did = tt
+  are_apart s (c ∷ cs) does far did = elim (which n t c far.0) [
+    | inl apart ↦ (apart, are_apart (step sc c s).after cs (swaps s c does apart).does far.1 did)
+    | inr e ↦ absurd (not_killed s c cs does far.1 e did)
+  ]
+
+  -- the law: it may come first
+  pub may_come_first : (s : State) (cs : List Choice) → Does sc n t s → AreOfOthers n cs → (step sc (Run n t) (play sc s cs)).outcome ≡ Did
+      → MayComeFirst sc s (Run n t) cs
+  may_come_first s cs does far did = comes_first s cs does (are_apart s cs does far did)
+
+  -- the law: other actors do not see it
+  pub unseen : (s : State) (cs : List Choice) → Does sc n t s → AreOfOthers n cs → entries sc (step sc (Run n t) s).after cs ≡ entries sc s cs
+  unseen s cs does far =
+      let p = apart_passes sc n t s (does_settled s does) Start tt in
+      let k = twice s Start does p in
+      ap (λ (x : Step). entries sc x.after cs) k.first
+      ∙ all_hide sc n t s k.txn k.locks cs k.stays (does_settled s does) far

@@ -5,4 +5,5 @@ pub mod Numbered
 pub mod Carried
 pub mod Asides
 pub mod Passes
+pub mod Unseen
 pub mod Commuting

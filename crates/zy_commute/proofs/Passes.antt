@@ -1,7 +1,7 @@
 -- What a choice does where a node's run of t was made before it, which sets t and takes locks there.
-use Rattle.std.proofs.Common.{◌≡◌, ◌∙◌, ◌⊎◌, inl, inr, ℕ, List, [], length, refl, sym, ap, subst, Bool, true, false, cond}
+use Rattle.std.proofs.Common.{◌≡◌, ◌∙◌, ◌⊎◌, inl, inr, ℕ, List, [], length, refl, sym, ap, subst, Bool, true, false, cond, None}
 use Rattle.std.specs.Prelude.{slice_set}
-use Rattle.std.proofs.lemmas.Bool.{cases_eq, cond_both, false≢true}
+use Rattle.std.proofs.lemmas.Bool.{cases_Bool, cases_eq, cond_both, false≢true}
 use Rattle.std.proofs.lemmas.List.{length-set}
 use Rattle.zy_isa.specs.declared.node.Node.{Node}
 use Rattle.zy_isa.specs.declared.node.Node.TheVariants.{A, B}
@@ -13,6 +13,7 @@ use Rattle.zy_model.specs.Locks.{drop_locks}
 use Rattle.zy_model.specs.Table.{is_waiting, may_start}
 use Rattle.zy_model.specs.declared.mode.NodeMode.{NodeMode}
 use Rattle.zy_table.specs.declared.outcome.Why.TheVariants as why
+use Rattle.zy_table.specs.declared.outcome.Outcome.{Outcome}
 use Rattle.zy_table.specs.declared.outcome.Outcome.TheVariants as outcome
 use Rattle.zy_table.specs.declared.status.Status.{Status}
 use Rattle.zy_table.specs.declared.status.Status.TheVariants.{New, Active, Committed, Aborted}
@@ -21,15 +22,15 @@ use Rattle.zy_table.specs.Change.{quiet, txn_at, with_txn, aborted}
 use Rattle.zy_table.specs.Client.{is_active, is_new, start_step, begin_step, kill_step}
 use Rattle.zy_table.specs.Run.{same_node, run_step}
 use Rattle.zy_table.specs.Play.{move, side_of, step}
-use Rattle.zy_laws.proofs.walk.Txns.{at_other, at_self, at_side}
+use Rattle.zy_laws.proofs.walk.Txns.{at_either, at_other, at_self, at_side}
 use Rattle.zy_frames.proofs.Rest.{face}
 use Rattle.zy_frames.proofs.StepReads.{begins}
 use Rattle.zy_frames.proofs.SameMoves.{move_changes}
-use Rattle.zy_commute.specs.Commute.{IsApart, Stays}
+use Rattle.zy_commute.specs.Commute.{Stays}
 use Rattle.zy_commute.proofs.FewerLocks.{IsFair, same, same_fair, drop_fair}
 use Rattle.zy_commute.proofs.DidRuns.{put}
 use Rattle.zy_commute.proofs.SetTwo.{set_swap}
-use Rattle.zy_commute.proofs.Asides.{aside, aside_move, runs_aside, elsewhere, runs_elsewhere, starts_aside, finishes_aside, pushes_aside, takes_aside, kills_aside}
+use Rattle.zy_commute.proofs.Asides.{aside, aside_move, runs_aside, elsewhere, idle, runs_elsewhere, runs_idle, starts_aside, finishes_aside, pushes_aside, takes_aside, kills_aside}
 
 -- a state where transaction t and the locks of node n are others
 abbrev pub moved : Node → ℕ → Txn → List Lock → State → State
@@ -51,6 +52,21 @@ pub record Passes (sc : Scenario) (n : Node) (t : ℕ) (s : State) (c : Choice) 
   pub step : (y : Txn) (ls : List Lock) → Stays (txn_at (facing n s) t) y
       → step sc c (moved n t y ls s) ≡ moved_step n t y (on_locks ls) (step sc c s)
 
+-- t has begun, and is active at no other node than n
+pub record IsSettled (n : Node) (t : ℕ) (v : View) : Type 0 where
+  pub begun : is_new (txn_at v t).status ≡ false
+  pub own : is_active (txn_at v t).status ≡ true → same_node (txn_at v t).node n ≡ true
+
+-- a choice of the other node than n, a start, a begin, or a kill of another transaction than t
+abbrev pub IsApart : Node → ℕ → Choice → Type 0
+IsApart n t Start = Unit {0}
+IsApart n t (Begin u) = Unit {0}
+IsApart n t (Kill u) = u ≡ t → ⊥
+IsApart n t (Run m u) = m ≡ other n
+IsApart n t (Take m) = m ≡ other n
+IsApart n t (Finish m) = m ≡ other n
+IsApart n t (Push m) = m ≡ other n
+
 -- ---- nodes
 
 -- a node is this one or the other
@@ -68,7 +84,7 @@ not_other B A e = absurd (false≢true e)
 not_other B B e = refl
 
 -- what is active has begun
-has_begun : (x : Status) → is_active x ≡ true → is_new x ≡ false
+pub has_begun : (x : Status) → is_active x ≡ true → is_new x ≡ false
 has_begun New e = absurd (false≢true e)
 has_begun Active e = refl
 has_begun Committed e = refl
@@ -111,6 +127,20 @@ seen_txn A t s = refl
 seen_txn B t s = refl
 
 -- ---- the client's side
+
+-- what is set in place of t has its status
+set_status : (v w : View) (t : ℕ) (y : Txn) → w.txns ≡ slice_set v.txns t y → Stays (txn_at v t) y → (txn_at w t).status ≡ (txn_at v t).status
+set_status v w t y e stays = elim (at_either v w t y e) [
+  | inl new ↦ ap (λ (x : Txn). x.status) new ∙ stays.status
+  | inr old ↦ ap (λ (x : Txn). x.status) old
+]
+
+-- t has its status
+moved_status : (n : Node) (t : ℕ) (y : Txn) (ls : List Lock) (s : State) → Stays (txn_at (facing n s) t) y
+    → (txn_at (facing n (moved n t y ls s)) t).status ≡ (txn_at (facing n s) t).status
+unfolding txn_at
+moved_status A t y ls s stays = set_status (facing A s) (facing A (moved A t y ls s)) t y refl stays
+moved_status B t y ls s stays = set_status (facing B s) (facing B (moved B t y ls s)) t y refl stays
 
 -- t is the one that was set
 moved_own : (n : Node) (t : ℕ) (y : Txn) (ls : List Lock) (s : State) → is_active (txn_at (facing n s) t).status ≡ true
@@ -165,6 +195,14 @@ with_one_txn : (n : Node) (t u : ℕ) (x : Txn) (s : State) → (t ≡ u → ⊥
 with_one_txn A t u x s far = at_other (facing A s) (facing A (with_one u x s)) u t x refl far
 with_one_txn B t u x s far = at_other (facing B s) (facing B (with_one u x s)) u t x refl far
 
+-- and settled for both
+seen_settled : (n : Node) (t : ℕ) (s : State) → IsSettled n t (facing n s) → IsSettled n t (facing (other n) s)
+seen_settled n t s k = record {
+  begun = ap (λ (x : Txn). is_new x.status) (seen_txn n t s) ∙ k.begun;
+  own = λ on.
+      ap (λ (x : Txn). same_node x.node n) (seen_txn n t s) ∙ k.own (sym (ap (λ (x : Txn). is_active x.status) (seen_txn n t s)) ∙ on);
+}
+
 -- a choice, seen from its side, leaves t and the other node, and does the same beside another t
 pub record Far (sc : Scenario) (t : ℕ) (c : Choice) (v : View) : Type 0 where
   pub them : (move sc c v).after.them ≡ v.them
@@ -213,16 +251,26 @@ module _ (sc : Scenario) (n : Node) (t : ℕ) (s : State) where
           beside = λ y z _ _. runs_aside t y z sc m u v far;
         }
 
-    -- a run of t, which is active elsewhere
-    far_elsewhere : (m : Node) → is_active (txn_at v t).status ≡ true → same_node (txn_at v t).node m ≡ false → Far sc t (Run m t) v
+    -- a run of t, which does not run there
+    far_still : (m : Node) (o : Outcome) → run_step sc m t v ≡ quiet v o
+        → ((y : Txn) (z : NodeState) → Stays (txn_at v t) y → run_step sc m t (aside t y z v) ≡ aside_move t y z (run_step sc m t v)) → Far sc t (Run m t) v
     unfolding move
-    far_elsewhere m on off =
-        let e = elsewhere t (txn_at v t) v.them sc m v on off in
-        record {
-          them = ap (λ (k : Move). k.after.them) e;
-          txn = ap (λ (k : Move). txn_at k.after t) e;
-          beside = λ y z stays _. runs_elsewhere t y z sc m v on off stays;
-        }
+    far_still m o e beside = record {
+      them = ap (λ (k : Move). k.after.them) e;
+      txn = ap (λ (k : Move). txn_at k.after t) e;
+      beside = λ y z stays _. beside y z stays;
+    }
+
+    -- which is active at no other node than n
+    far_own : IsSettled n t v → Far sc t (Run (other n) t) v
+    far_own settled = elim (cases_Bool (is_active (txn_at v t).status)) [
+      | inl on ↦
+          let off = not_other _ n (settled.own on) in
+          far_still (other n) outcome.Elsewhere (elsewhere t (txn_at v t) v.them sc (other n) v on off)
+          (λ y z stays. runs_elsewhere t y z sc (other n) v on off stays)
+      | inr off ↦
+          far_still (other n) outcome.Idle (idle t (txn_at v t) v.them sc (other n) v off) (λ y z stays. runs_idle t y z sc (other n) v off stays)
+    ]
 
     -- a start
     far_start : Far sc t Start v
@@ -281,14 +329,12 @@ module _ (sc : Scenario) (n : Node) (t : ℕ) (s : State) where
 
   -- ---- a begin, which is seen from A
 
-  -- a begin of t, which has begun
-  begins_own : is_active (txn_at (facing n s) t).status ≡ true → Passes sc n t s (Begin t)
-  unfolding step move begin_step
-  begins_own on =
-      let idle : (r : State) → is_active (txn_at (facing A r) t).status ≡ true → step sc (Begin t) r ≡ as_step A (quiet (facing A r) outcome.Idle) =
-      λ r h. rw (has_begun _ h) refl in
-      let at_a = ap (λ (x : Txn). is_active x.status) (at_side n s t ∙ sym (at_side A s t)) in
-      let here = idle s (sym at_a ∙ on) in
+  -- a choice that does nothing where t has its status
+  pub still_passes : (c : Choice) (o : Outcome)
+      → ((r : State) → (txn_at (facing n r) t).status ≡ (txn_at (facing n s) t).status → step sc c r ≡ record { after = r; outcome = o; sent = None })
+      → Passes sc n t s c
+  still_passes c o still =
+      let here = still s refl in
       record {
         mode = (facing n s).me.mode;
         awake = λ e. e;
@@ -296,11 +342,16 @@ module _ (sc : Scenario) (n : Node) (t : ℕ) (s : State) where
         fair = same_fair t;
         me = ap (λ (x : Step). (facing n x.after).me) here;
         txn = ap (λ (x : Step). txn_at (facing n x.after) t) here;
-        step = λ y ls stays.
-            let u = moved n t y ls s in
-            let now = moved_own n t y ls s on in
-            idle u (ap (λ (x : Txn). is_active x.status) now ∙ (ap is_active stays.status ∙ on)) ∙ sym (ap (moved_step n t y ls) here);
+        step = λ y ls stays. still (moved n t y ls s) (moved_status n t y ls s stays) ∙ sym (ap (moved_step n t y ls) here);
       }
+
+  -- a begin of t, which has begun
+  begins_own : is_new (txn_at (facing n s) t).status ≡ false → Passes sc n t s (Begin t)
+  unfolding step move begin_step
+  begins_own begun = still_passes (Begin t) outcome.Idle (λ r e.
+      let old : is_new (txn_at (facing A r) t).status ≡ false =
+          ap (λ (x : Txn). is_new x.status) (at_side A r t ∙ sym (at_side n r t)) ∙ (ap is_new e ∙ begun) in
+      rw old refl)
 
   -- a begin of another
   begins_other : (u : ℕ) → (u ≡ t → ⊥) → Passes sc n t s (Begin u)
@@ -327,11 +378,11 @@ module _ (sc : Scenario) (n : Node) (t : ℕ) (s : State) where
   -- ---- a start at n
 
   -- the view of n
-  near_view : (y : Txn) (ls : List Lock) → facing n (moved n t y ls s) ≡ put t y ls (facing n s)
+  pub near_view : (y : Txn) (ls : List Lock) → facing n (moved n t y ls s) ≡ put t y ls (facing n s)
   near_view y ls = face n (put t y ls (facing n s))
 
   -- the state of such a view
-  near_state : (y : Txn) (ls : List Lock) (w : View) → seen_from n (put t y ls w) ≡ moved n t y ls (seen_from n w)
+  pub near_state : (y : Txn) (ls : List Lock) (w : View) → seen_from n (put t y ls w) ≡ moved n t y ls (seen_from n w)
   near_state y ls w = ap (λ (v : View). seen_from n (put t y ls v)) (sym (face n w))
 
   -- where t and locks are others
@@ -474,11 +525,11 @@ module _ (sc : Scenario) (n : Node) (t : ℕ) (s : State) where
 
   -- ---- any choice that is apart
 
-  module _ (on : is_active (txn_at (facing n s) t).status ≡ true) (here : same_node (txn_at (facing n s) t).node n ≡ true) where
+  module _ (settled : IsSettled n t (facing n s)) where
     -- a begin
     begins_passes : (u : ℕ) → Passes sc n t s (Begin u)
     begins_passes u = elim (cases_eq u t) [
-      | inl e ↦ subst (λ (x : ℕ). Passes sc n t s (Begin x)) (sym e) (begins_own on)
+      | inl e ↦ subst (λ (x : ℕ). Passes sc n t s (Begin x)) (sym e) (begins_own settled.begun)
       | inr far ↦ begins_other u far
     ]
 
@@ -487,9 +538,7 @@ module _ (sc : Scenario) (n : Node) (t : ℕ) (s : State) where
     run_passes u =
         let v = facing (other n) s in
         far_passes (Run (other n) u) refl (λ y ls. refl) (elim (cases_eq u t) [
-          | inl e ↦ subst (λ (x : ℕ). Far sc t (Run (other n) x) v) (sym e)
-              (far_elsewhere v (other n) (ap (λ (x : Txn). is_active x.status) (seen_txn n t s) ∙ on)
-              (ap (λ (x : Txn). same_node x.node (other n)) (seen_txn n t s) ∙ not_other _ n here))
+          | inl e ↦ subst (λ (x : ℕ). Far sc t (Run (other n) x) v) (sym e) (far_own v (seen_settled n t s settled))
           | inr far ↦ far_run v (other n) u far
         ])
 

@@ -27,3 +27,9 @@ active_stays m i (z ∷ zs) zero x k =
     ∙ ap (λ (node : Node). if is_active z.status && same_node node m then Some i else active_from m (i + 1) zs) k.node
 active_stays m i (z ∷ zs) (suc t) x k =
     ap (λ (o : Option ℕ). if is_active z.status && same_node z.node m then Some i else o) (active_stays m (i + 1) zs t x k)
+
+-- the one that is set last counts
+pub set_twice : (xs : List Txn) (t : ℕ) (x y : Txn) → slice_set (slice_set xs t x) t y ≡ slice_set xs t y
+set_twice [] t x y = refl
+set_twice (z ∷ zs) zero x y = refl
+set_twice (z ∷ zs) (suc t) x y = ap (λ (ys : List Txn). z ∷ ys) (set_twice zs t x y)
