@@ -20,8 +20,7 @@ use Rattle.zy_laws.proofs.walk.Txns.{at_either, at_other}
 use Rattle.zy_frames.proofs.RunReads.{runs}
 use Rattle.zy_frames.proofs.StepReads.{beside_move, finishes, kills, pushes, starts, takes_first}
 use Rattle.zy_frames.proofs.SameMoves.{move_changes}
-use Rattle.zy_commute.specs.Commute.{Stays}
-use Rattle.zy_commute.proofs.SetTwo.{set_swap, active_stays}
+use Rattle.zy_commute.proofs.SetTwo.{Stays, set_swap, active_stays}
 use Rattle.zy_commute.proofs.Numbered.{same_outcome}
 
 -- a move by its parts

@@ -14,7 +14,8 @@ use Rattle.zy_table.specs.State.{State, NodeState, Step, Txn, facing, as_step}
 use Rattle.zy_table.specs.Change.{txn_at}
 use Rattle.zy_table.specs.Play.{move, step, side_of, play, entry_of, entries}
 use Rattle.zy_frames.proofs.Rest.{step_leaves}
-use Rattle.zy_commute.specs.Commute.{Does, AreOfOthers, MayComeFirst, Stays}
+use Rattle.zy_commute.specs.Commute.{Does, AreOfOthers, MayComeFirst}
+use Rattle.zy_commute.proofs.SetTwo.{Stays}
 use Rattle.zy_commute.proofs.DidRuns.{moded, relocked, did_went, stands}
 use Rattle.zy_commute.proofs.Carried.{carried}
 use Rattle.zy_commute.proofs.Unseen.{which, all_hide, killed_for_good}

@@ -31,7 +31,7 @@ use Rattle.zy_table.specs.Client.{is_active}
 use Rattle.zy_table.specs.Run.{same_node, abort_step, set_step, jump_step, commit_or_gone, commit_step, absent_step, read_step, is_there, write_step}
 use Rattle.zy_table.specs.Run.{has_room, full_step, split_step, insert_step, lock_of, access_step, page_step, key_step, sum_step, sum_or_waits}
 use Rattle.zy_table.specs.Run.{sum_or_asks, range_step, effect_step, instr_step, run_step}
-use Rattle.zy_commute.specs.Commute.{Stays}
+use Rattle.zy_commute.proofs.SetTwo.{Stays}
 use Rattle.zy_commute.proofs.FewerLocks.{IsFair, shares_fair, free_fair}
 
 -- whether an outcome is `did`

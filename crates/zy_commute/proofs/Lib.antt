@@ -1,8 +1,8 @@
+pub mod SetTwo
 pub mod FewerLocks
 pub mod DidRuns
-pub mod SetTwo
-pub mod Numbered
 pub mod Carried
+pub mod Numbered
 pub mod Asides
 pub mod Passes
 pub mod Unseen

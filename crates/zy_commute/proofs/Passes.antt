@@ -26,10 +26,9 @@ use Rattle.zy_laws.proofs.walk.Txns.{at_either, at_other, at_self, at_side}
 use Rattle.zy_frames.proofs.Rest.{face}
 use Rattle.zy_frames.proofs.StepReads.{begins}
 use Rattle.zy_frames.proofs.SameMoves.{move_changes}
-use Rattle.zy_commute.specs.Commute.{Stays}
 use Rattle.zy_commute.proofs.FewerLocks.{IsFair, same, same_fair, drop_fair}
 use Rattle.zy_commute.proofs.DidRuns.{put}
-use Rattle.zy_commute.proofs.SetTwo.{set_swap}
+use Rattle.zy_commute.proofs.SetTwo.{Stays, set_swap}
 use Rattle.zy_commute.proofs.Asides.{aside, aside_move, runs_aside, elsewhere, idle, runs_elsewhere, runs_idle, starts_aside, finishes_aside, pushes_aside, takes_aside, kills_aside}
 
 -- a state where transaction t and the locks of node n are others
@@ -350,7 +349,7 @@ module _ (sc : Scenario) (n : Node) (t : ℕ) (s : State) where
   unfolding step move begin_step
   begins_own begun = still_passes (Begin t) outcome.Idle (λ r e.
       let old : is_new (txn_at (facing A r) t).status ≡ false =
-          ap (λ (x : Txn). is_new x.status) (at_side A r t ∙ sym (at_side n r t)) ∙ (ap is_new e ∙ begun) in
+      ap (λ (x : Txn). is_new x.status) (at_side A r t ∙ sym (at_side n r t)) ∙ (ap is_new e ∙ begun) in
       rw old refl)
 
   -- a begin of another

@@ -8,7 +8,11 @@ use Rattle.zy_table.specs.Change.{txn_or}
 use Rattle.zy_table.specs.Client.{is_active}
 use Rattle.zy_table.specs.Run.{same_node}
 use Rattle.zy_table.specs.Push.{active_from}
-use Rattle.zy_commute.specs.Commute.{Stays}
+
+-- a transaction has the status and the node that it had
+pub record Stays (old new : Txn) : Type 0 where
+  pub status : new.status ≡ old.status
+  pub node : new.node ≡ old.node
 
 -- which is set first does not matter
 pub set_swap : (xs : List Txn) (t u : ℕ) (x y : Txn) → (u ≡ t → ⊥) → slice_set (slice_set xs t x) u y ≡ slice_set (slice_set xs u y) t x

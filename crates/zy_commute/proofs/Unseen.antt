@@ -1,6 +1,5 @@
 -- What a node's run did is seen by no other actor, even where the client kills its transaction.
 use Rattle.std.proofs.Common.{◌≡◌, ◌∙◌, ◌⊎◌, inl, inr, ℕ, List, [], ◌∷◌, refl, sym, ap, subst, true, false, None}
-use Rattle.std.specs.Prelude.{slice_set}
 use Rattle.std.proofs.lemmas.Bool.{cases_Bool, cases_eq, false≢true}
 use Rattle.zy_isa.specs.declared.node.Node.{Node}
 use Rattle.zy_isa.specs.declared.node.Node.TheVariants.{A, B}
@@ -15,16 +14,16 @@ use Rattle.zy_table.specs.declared.outcome.Why.TheVariants as why
 use Rattle.zy_table.specs.declared.outcome.Outcome.{Outcome}
 use Rattle.zy_table.specs.declared.outcome.Outcome.TheVariants as outcome
 use Rattle.zy_table.specs.declared.status.Status.TheVariants.{Aborted}
-use Rattle.zy_table.specs.State.{State, View, Move, Step, Txn, facing, seen_from, other, as_step}
+use Rattle.zy_table.specs.State.{State, View, Step, Txn, facing, other, as_step}
 use Rattle.zy_table.specs.Change.{quiet, txn_at, aborted}
 use Rattle.zy_table.specs.Client.{is_active, is_new, kill_step}
 use Rattle.zy_table.specs.Run.{same_node}
 use Rattle.zy_table.specs.Play.{move, step, side_of, play, entry_of, entries}
 use Rattle.zy_laws.proofs.walk.Txns.{at_self, at_side}
 use Rattle.zy_frames.proofs.Rest.{face}
-use Rattle.zy_commute.specs.Commute.{AreOfOthers, Stays}
+use Rattle.zy_commute.specs.Commute.{AreOfOthers}
 use Rattle.zy_commute.proofs.DidRuns.{put, relocked}
-use Rattle.zy_commute.proofs.SetTwo.{set_twice}
+use Rattle.zy_commute.proofs.SetTwo.{Stays, set_twice}
 use Rattle.zy_commute.proofs.Passes.{Passes, IsApart, IsSettled, moved, moved_step, apart_passes, still_passes, near_view, near_state}
 
 -- ---- which choices there are
@@ -40,7 +39,7 @@ far_node B B h = absurd (h refl)
 pub which : (n : Node) (t : ℕ) (c : Choice) → (actor_of c ≡ actor_at n → ⊥) → IsApart n t c ⊎ (c ≡ Kill t)
 which n t Start h = inl tt
 which n t (Begin u) h = inl tt
-which n t (Kill u) h = elim (cases_eq u t) [ | inl e ↦ inr (ap Kill e) | inr far ↦ inl far ]
+which n t (Kill u) h = elim (cases_eq u t) [ inl e ↦ inr (ap Kill e) | inr far ↦ inl far ]
 which n t (Run m u) h = inl (far_node m n h)
 which n t (Take m) h = inl (far_node m n h)
 which n t (Finish m) h = inl (far_node m n h)
@@ -116,7 +115,7 @@ module _ (sc : Scenario) (n : Node) (t : ℕ) where
   kills_idle s off = still_passes sc n t s (Kill t) outcome.Idle (λ r e.
       let k = side_of sc (Kill t) r in
       let here : is_active (txn_at (facing k r) t).status ≡ false =
-          ap (λ (x : Txn). is_active x.status) (at_side k r t ∙ sym (at_side n r t)) ∙ (ap is_active e ∙ off) in
+      ap (λ (x : Txn). is_active x.status) (at_side k r t ∙ sym (at_side n r t)) ∙ (ap is_active e ∙ off) in
       ap (as_step k) (kills_none t (facing k r) here) ∙ rest_step k r outcome.Idle)
 
   -- the side of a kill is where t is
@@ -142,10 +141,10 @@ module _ (sc : Scenario) (n : Node) (t : ℕ) where
       let there = kill_step_at s v refl on here in
       let now : txn_at w t ≡ y = at_self v w t y refl on in
       let after : txn_at (facing n (step sc (Kill t) s).after) t ≡ dead (txn_at v t) =
-          ap (λ (x : Step). txn_at (facing n x.after) t) there
-          ∙ (ap (λ (u : View). txn_at u t) (face n (killed t v)) ∙ at_self v (killed t v) t (dead (txn_at v t)) refl on) in
+      ap (λ (x : Step). txn_at (facing n x.after) t) there
+      ∙ (ap (λ (u : View). txn_at u t) (face n (killed t v)) ∙ at_self v (killed t v) t (dead (txn_at v t)) refl on) in
       let other = kill_step_at (moved n t y ls s) w (near_view sc n t s y ls) (ap (λ (x : Txn). is_active x.status) now ∙ (ap is_active stays.status ∙ on))
-          (ap (λ (x : Txn). same_node x.node n) now ∙ (ap (λ (k : Node). same_node k n) stays.node ∙ here)) in
+      (ap (λ (x : Txn). same_node x.node n) now ∙ (ap (λ (k : Node). same_node k n) stays.node ∙ here)) in
       record {
         txn = dead y;
         locks = drop_locks t ls;
@@ -208,8 +207,8 @@ module _ (sc : Scenario) (n : Node) (t : ℕ) where
   kill_ends s on here =
       let v = facing n s in
       let after : txn_at (facing n (step sc (Kill t) s).after) t ≡ dead (txn_at v t) =
-          ap (λ (x : Step). txn_at (facing n x.after) t) (kill_step_at s v refl on here)
-          ∙ (ap (λ (u : View). txn_at u t) (face n (killed t v)) ∙ at_self v (killed t v) t (dead (txn_at v t)) refl on) in
+      ap (λ (x : Step). txn_at (facing n x.after) t) (kill_step_at s v refl on here)
+      ∙ (ap (λ (u : View). txn_at u t) (face n (killed t v)) ∙ at_self v (killed t v) t (dead (txn_at v t)) refl on) in
       (ap (λ (x : Txn). is_new x.status) after, ap (λ (x : Txn). is_active x.status) after)
 
   -- behind a kill and choices of other actors it is not active

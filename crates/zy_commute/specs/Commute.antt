@@ -7,7 +7,7 @@ use Rattle.zy_isa.specs.Choices.{actor_of, actor_at}
 use Rattle.zy_isa.specs.Scenario.{Scenario}
 use Rattle.zy_model.specs.Order.{LocksRise}
 use Rattle.zy_table.specs.declared.outcome.Outcome.TheVariants.{Did}
-use Rattle.zy_table.specs.State.{State, Txn, facing}
+use Rattle.zy_table.specs.State.{State, facing}
 use Rattle.zy_table.specs.Play.{step, play, entry_of, entries}
 
 -- node n runs t in this state, and the outcome is `did`; the locks of n are in order, as in every state that is reached
@@ -26,8 +26,3 @@ pub record MayComeFirst (sc : Scenario) (s : State) (first : Choice) (cs : List 
   pub after : play sc s (first ∷ cs) ≡ play sc s (cs ++ first ∷ [])
   pub own : entry_of first (step sc first (play sc s cs)) ≡ entry_of first (step sc first s)
   pub others : entries sc (step sc first s).after cs ≡ entries sc s cs
-
--- a transaction has the status and the node that it had
-pub record Stays (old new : Txn) : Type 0 where
-  pub status : new.status ≡ old.status
-  pub node : new.node ≡ old.node
