@@ -1,0 +1,4 @@
+//! Steps that may be made in either order.
+#![tactic(auto)]
+
+pub mod laws;
