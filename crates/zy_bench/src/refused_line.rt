@@ -24,12 +24,17 @@ impl<'a> RefusedLine<'a> {
         }
     }
 
-    /// The word that does not fit; where it is missing, the end of the line.
+    /// The word that does not fit.
     fn place(self) -> MarkedWord<'a> {
         let statement = SourceLine::of(self.input, self.refusal.line).statement();
-        let word = statement.word(self.refusal.word);
-        MarkedWord::of(statement.bytes, word.unwrap_or(end_of(statement)))
+        misfit(statement, self.refusal.word)
     }
+}
+
+/// The word of this number in a line, from 0; where it is missing, the end of the line.
+pub fn misfit(statement: Statement<'_>, number: usize) -> MarkedWord<'_> {
+    let word = statement.word(number).unwrap_or(end_of(statement));
+    MarkedWord::of(statement.bytes, word)
 }
 
 /// An empty word at the end of a line.
