@@ -67,7 +67,7 @@ impl ToldLine {
     pub fn refused<'a>(&'a self, file: Option<&'a str>, refusal: LogLineFault) -> RefusedTold<'a> {
         RefusedTold {
             file,
-            told: self.bytes.as_slice(),
+            told: SourceLine::of(self.bytes.as_slice(), 1).statement(),
             refusal,
         }
     }
@@ -77,7 +77,7 @@ impl ToldLine {
 #[derive(Clone, Copy)]
 pub struct RefusedTold<'a> {
     file: Option<&'a str>,
-    told: &'a [u8],
+    told: Statement<'a>,
     refusal: LogLineFault,
 }
 
@@ -89,7 +89,7 @@ impl fmt::Display for RefusedTold<'_> {
             word,
             expected,
         } = self.refusal;
-        let (kind, place) = (expected.kind(), misfit(Statement::of(self.told), word));
+        let (kind, place) = (expected.kind(), misfit(self.told, word));
         let origin = Origin::at(self.file, start_of(line));
         write!(
             f,
