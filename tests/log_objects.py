@@ -15,8 +15,8 @@ def fields_of(line):
     if not line:
         return None
     actor, rest = re.split('[ \t]+', line, maxsplit=1)
-    rest, *sent = re.split('[ \t]+!', rest)
-    action, *came = re.split('[ \t]+->', rest)
+    rest, *sent = re.split('[ \t]+![ \t]*', rest)
+    action, *came = re.split('[ \t]+->[ \t]*', rest)
     return {'actor': actor, 'do': action, **({'came': came[0]} if came else {}), **({'sent': sent[0]} if sent else {})}
 
 
