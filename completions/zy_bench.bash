@@ -7,11 +7,12 @@ _zy_bench() {
     return
   fi
   case ${COMP_WORDS[1]} in
-    run | threads | trace) options='--image --help' ;;
+    run) options='--image --json --help' ;;
+    threads | trace) options='--image --help' ;;
     debug) options='--every --ring --help' ;;
     search) options='--image --for --always --from --kill --without --states --threads --canon --help' ;;
     find) options='--image --for --always --help' ;;
-    order) options='--states --canon --furthest --help' ;;
+    order) options='--json --states --canon --furthest --help' ;;
     help) options='run asm dis check threads trace debug search find order' ;;
     *) options='--help' ;;
   esac

@@ -3,7 +3,7 @@
 use clap::{Arg, ArgAction, ArgMatches, Command, value_parser};
 use std::alloc::{AllocError, Global};
 use zy_engine::{Format, SearchOptions, Wording};
-use zy_ordering::OrderOptions;
+use zy_ordering::{LogFormat, OrderOptions};
 use zy_search::ChoiceKinds;
 
 /// A task, and the input that it is for.
@@ -65,6 +65,8 @@ pub struct Checkpoints {
 pub enum Conversion {
     /// The listing of its run.
     Run(Format),
+    /// The steps of its run, each as an object of JSON.
+    Objects(Format),
     /// The trace of its run.
     Trace(Format),
     /// The listing of its run by three threads.
@@ -100,6 +102,14 @@ fn image_flag<'a>(alloc: Global) -> Arg<'a> {
         .help("The input is an image, as asm writes it, and not a text")
 }
 
+/// `--json`.
+fn json_flag<'a>(alloc: Global, help: &'a str) -> Arg<'a> {
+    Arg::new(alloc, "json")
+        .long("json")
+        .action(ArgAction::SetTrue)
+        .help(help)
+}
+
 /// The file that is read.
 fn file_argument<'a>(alloc: Global) -> Arg<'a> {
     Arg::new(alloc, "file")
@@ -126,10 +136,11 @@ fn run_command<'a>(alloc: Global) -> Result<Command<'a>, AllocError> {
         .about("Runs a scenario, and prints its listing")
         .after_help(below!(
             "a scenario text, or with --image an image",
-            "the listing",
+            "the listing, or with --json the steps,\n         each as an object of JSON",
             "zy_bench run examples/first_run.zephyr"
         ))
         .arg(image_flag(alloc))?
+        .arg(json_flag(alloc, "Writes the steps as objects of JSON, and no listing"))?
         .arg(file_argument(alloc))
 }
 
@@ -209,7 +220,7 @@ fn debug_command<'a>(alloc: Global) -> Result<Command<'a>, AllocError> {
 const SEARCH_HELP: &'static str = concat!(
     "Input:   a scenario text, or with --image an image, at most 4194304 bytes; its choices are steps\n",
     "         already taken\n",
-    "PipeSink:  the scenario with a shortest list of further choices that leads there; nothing where\n",
+    "Output:  the scenario with a shortest list of further choices that leads there; nothing where\n",
     "         there is none. A text keeps its names and comments. Standard error has the number of\n",
     "         states reached; a fault is one line there\n",
     "Status:  0 found, 1 the input is rejected, 2 the command line is wrong, 3 out of memory,\n",
@@ -299,7 +310,7 @@ fn search_command<'a>(alloc: Global) -> Result<Command<'a>, AllocError> {
 /// What is below the options of `find`.
 const FIND_HELP: &'static str = concat!(
     "Input:   a scenario text, or with --image an image, at most 4194304 bytes\n",
-    "PipeSink:  the positions of its run at which the state meets GOAL, one a line: how many choices\n",
+    "Output:  the positions of its run at which the state meets GOAL, one a line: how many choices\n",
     "         are made there; a fault is one line on standard error\n",
     "Status:  0 there are some, 1 the input is rejected, 2 the command line is wrong,\n",
     "         3 out of memory, 4 there is none, 5 the input or the output failed\n",
@@ -338,7 +349,7 @@ const ORDER_HELP: &'static str = concat!(
     "Input:   a scenario text through its end line, and below it lines of the logs of C, A and B, each\n",
     "         actor's own in order, else mixed in any way; at most 4194304 bytes. The scenario's choices\n",
     "         are steps already taken\n",
-    "PipeSink:  the scenario with the choices of an order of all lines behind its own, in which the step\n",
+    "Output:  the scenario with the choices of an order of all lines behind its own, in which the step\n",
     "         table gives each line what it tells; nothing where there is none. A text keeps its names\n",
     "         and comments. Standard error has the number of states reached and, where there is none,\n",
     "         the furthest that an order comes, with the lines that do not fit there; a fault is one\n",
@@ -348,7 +359,8 @@ const ORDER_HELP: &'static str = concat!(
     "\n",
     "Lines:   CHOICE -> OUTCOME ! KIND, in the words of a listing, where ! KIND is the message that was\n",
     "         sent. CHOICE alone, or CHOICE -> ?, says nothing of what came. Numbers of an outcome may\n",
-    "         be left out from the end on: docs/order.md has the form\n",
+    "         be left out from the end on: docs/order.md has the form. With --json a line is an object\n",
+    "         in place of this: {\"actor\":\"A\",\"do\":\"run 0\",\"came\":\"did\"}\n",
     "\n",
     "Example:\n",
     "  cat SCENARIO client.log a.log b.log | zy_bench order | zy_bench run"
@@ -367,6 +379,10 @@ fn order_command<'a>(alloc: Global) -> Result<Command<'a>, AllocError> {
     Command::new(alloc, "order")
         .about("Looks for an order of three logs that the step table allows")
         .after_help(ORDER_HELP)
+        .arg(json_flag(
+            alloc,
+            "The lines of the logs are objects of JSON, as run --json writes them",
+        ))?
         .arg(states_argument(alloc))?
         .arg(canon_flag(alloc))?
         .arg(furthest_argument(alloc))?
@@ -404,7 +420,7 @@ pub fn request_of<'a>(matches: &ArgMatches<'a>) -> Option<Request<'a>> {
 /// What the words behind the name of a command ask for.
 fn task_of<'a>(name: &str, words: &ArgMatches<'a>) -> Option<Task<'a>> {
     match name {
-        "run" => Some(Task::Convert(Conversion::Run(format_of(words)))),
+        "run" => Some(Task::Convert(run_of(words))),
         "trace" => Some(Task::Convert(Conversion::Trace(format_of(words)))),
         "threads" => Some(Task::Convert(Conversion::Threads(format_of(words)))),
         "asm" => Some(Task::Convert(Conversion::Asm)),
@@ -415,6 +431,16 @@ fn task_of<'a>(name: &str, words: &ArgMatches<'a>) -> Option<Task<'a>> {
         "find" => Some(Task::Find(quest_of(words))),
         "order" => Some(Task::Order(order_of(words))),
         _ => None,
+    }
+}
+
+/// What `run` prints: the listing, or with `--json` the steps.
+fn run_of(words: &ArgMatches<'_>) -> Conversion {
+    let format = format_of(words);
+    if words.get_flag("json") {
+        Conversion::Objects(format)
+    } else {
+        Conversion::Run(format)
     }
 }
 
@@ -446,9 +472,19 @@ fn order_of<'a>(words: &ArgMatches<'a>) -> LogQuest<'a> {
     LogQuest {
         options: OrderOptions {
             wording: wording_of(words),
+            logs: logs_of(words),
             most: most_of(words),
         },
         furthest: words.get_str("furthest"),
+    }
+}
+
+/// How the lines of logs are written.
+fn logs_of(words: &ArgMatches<'_>) -> LogFormat {
+    if words.get_flag("json") {
+        LogFormat::Json
+    } else {
+        LogFormat::Text
     }
 }
 

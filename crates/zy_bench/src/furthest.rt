@@ -12,9 +12,10 @@ use zy_engine::{BenchFault, Format};
 use zy_io::{Line, LineBuffer, MAX_INPUT};
 use zy_isa::{Actor, Choice, MAX_CHOICES};
 use zy_listing::StepLine;
-use zy_logs::{LogFault, NumberedLine};
+use zy_logs::NumberedLine;
 use zy_machine::{Fault, Machine};
 use zy_ordering::logs_below::read_below;
+use zy_ordering::{BelowFault, LogFormat};
 use zy_table::Entry;
 use zy_text::cut::cut_len;
 
@@ -75,6 +76,8 @@ fn counts_in(lines: &[NumberedLine]) -> Counts {
 pub struct Furthest {
     /// The machine that has made its choices.
     machine: Machine,
+    /// How the lines of the logs are written.
+    logs: LogFormat,
     /// The lines of the logs.
     lines: Vec<NumberedLine>,
     /// How many lines of each actor it takes.
@@ -83,13 +86,19 @@ pub struct Furthest {
 
 impl Furthest {
     /// The end of the order that makes these choices, of the logs of an input that is read without a fault.
-    pub fn of(alloc: Global, input: &[u8], order: &[Choice]) -> Result<Furthest, BenchFault> {
+    pub fn of(
+        alloc: Global,
+        logs: LogFormat,
+        input: &[u8],
+        order: &[Choice],
+    ) -> Result<Furthest, BenchFault> {
         let (text, below) = input.split_at(cut_len(input).min(input.len()));
         let mut machine = make_again(alloc, Format::Text, text)?;
-        let lines = lines_again(alloc, &machine, text, below)?;
+        let lines = lines_again(alloc, logs, &machine, text, below)?;
         go_on(&mut machine, order)?;
         Ok(Furthest {
             machine,
+            logs,
             lines,
             taken: counts_of(order),
         })
@@ -153,9 +162,14 @@ impl Furthest {
         line: NumberedLine,
     ) {
         if let Ok(Some(step)) = self.instead(rt.alloc(), line) {
+            let source = SourceLine::of(input, line.number);
             let unfit = Unfit {
                 file,
-                line: SourceLine::of(input, line.number),
+                number: line.number,
+                bytes: match self.logs {
+                    LogFormat::Text => source.statement().bytes,
+                    LogFormat::Json => source.bytes,
+                },
                 came: behind_arrow(step.as_bytes()),
             };
             let _ = eprintln!(rt; "{unfit}");
@@ -166,6 +180,7 @@ impl Furthest {
 /// The lines of the logs that are below a machine's scenario.
 fn lines_again(
     alloc: Global,
+    logs: LogFormat,
     machine: &Machine,
     text: &[u8],
     below: &[u8],
@@ -173,10 +188,10 @@ fn lines_again(
     if MAX_INPUT < text.len() || MAX_INPUT < below.len() {
         return Err(BenchFault::TooLong);
     }
-    match read_below(alloc, machine.scenario(), text, below) {
+    match read_below(alloc, logs, machine.scenario(), text, below) {
         Ok(lines) => Ok(lines),
-        Err(LogFault::Memory) => Err(BenchFault::Memory),
-        Err(LogFault::Refused(_)) => Ok(Vec::new(alloc)),
+        Err(BelowFault::Memory) => Err(BenchFault::Memory),
+        Err(BelowFault::Log(_) | BelowFault::Json(_)) => Ok(Vec::new(alloc)),
     }
 }
 
@@ -216,14 +231,15 @@ impl fmt::Display for Reach {
 #[derive(Clone, Copy)]
 struct Unfit<'a> {
     file: Option<&'a str>,
-    line: SourceLine<'a>,
+    number: usize,
+    /// The line, without its comment.
+    bytes: &'a [u8],
     came: &'a [u8],
 }
 
 impl fmt::Display for Unfit<'_> {
     fn fmt<W: fmt::Write>(&self, f: &mut fmt::Formatter<W>) -> fmt::Result {
-        let SourceLine { number, .. } = self.line;
-        let bytes = self.line.statement().bytes;
+        let Unfit { number, bytes, .. } = *self;
         let told = bytes.trim_ascii();
         match self.file {
             Some(file) => {

@@ -24,6 +24,7 @@ mod origin;
 mod output;
 mod progress;
 mod refused_line;
+mod refused_object;
 mod summary;
 mod tally;
 
@@ -55,6 +56,7 @@ use zy_diagnostics::line::whole_line;
 use zy_engine::checking::check_bytes;
 use zy_engine::debugging::{MAX_EVERY, MAX_RING, debug_bytes};
 use zy_engine::engine::{asm_bytes, dis_bytes, run_bytes, trace_bytes};
+use zy_engine::step_objects::objects_bytes;
 use zy_engine::threading::threads_bytes;
 use zy_engine::{BenchFault, Format};
 use zy_io::reading::read_all;
@@ -102,6 +104,10 @@ fn convert<R: Eprint + AllocGlobal + Threads + Wait + Sync, G: Read, W: Write>(
     match conversion {
         Conversion::Run(format) => {
             let machine = run_bytes(alloc, format, source, output, input)?;
+            close_run(rt, &machine, output)
+        }
+        Conversion::Objects(format) => {
+            let machine = objects_bytes(alloc, format, source, output, input)?;
             close_run(rt, &machine, output)
         }
         Conversion::Trace(format) => {
@@ -241,7 +247,7 @@ fn unprinted(error: &io::Error) -> BenchFault {
 /// The command that a task is of.
 fn command_of(task: Task<'_>) -> Reader {
     match task {
-        Task::Convert(Conversion::Run(_)) => Reader::Run,
+        Task::Convert(Conversion::Run(_) | Conversion::Objects(_)) => Reader::Run,
         Task::Convert(Conversion::Trace(_)) => Reader::Trace,
         Task::Convert(Conversion::Threads(_)) => Reader::Threads,
         Task::Convert(Conversion::Asm) => Reader::Asm,

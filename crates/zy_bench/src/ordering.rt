@@ -7,14 +7,16 @@ use crate::furthest::Furthest;
 use crate::keeping::Keeper;
 use crate::output::{PipeSink, flush};
 use crate::refused_line::RefusedLine;
+use crate::refused_object::{RefusedObject, ToldLine};
 use crate::summary::Count;
 use std::io::{Read, Write};
 use std::rt::Files;
 use zy_engine::BenchFault;
 use zy_io::CountingReader;
+use zy_logs::LogLineFault;
 use zy_order::{OrderAnswer, OrderReport};
-use zy_ordering::OrderFault;
 use zy_ordering::ordering::order_bytes;
+use zy_ordering::{LogFormat, OrderFault};
 
 /// Looks for an order of the logs that are given below a scenario, and gives the exit status.
 pub fn order<R: Eprint + Files + AllocGlobal, G: Read, W: Write>(
@@ -31,16 +33,42 @@ pub fn order<R: Eprint + Files + AllocGlobal, G: Read, W: Write>(
     match order_bytes(rt.alloc(), quest.options, source, output, input) {
         Ok(report) => {
             flush(output)?;
-            let status = sum_up(rt, file, input.as_slice(), &report)?;
+            let status = sum_up(rt, quest.options.logs, file, input.as_slice(), &report)?;
             Ok(kept(rt, quest, input.as_slice(), &report.answer).unwrap_or(status))
         }
         Err(OrderFault::Bench(fault)) => Err(fault),
         Err(OrderFault::Log(refusal)) => {
-            let refused = RefusedLine::of(file, input.as_slice(), refusal);
-            let _ = eprintln!(rt; "{refused}");
+            tell_refused(rt, quest.options.logs, file, input.as_slice(), refusal)?;
             Ok(OrderFault::Log(refusal).status())
         }
+        Err(OrderFault::Json(refusal)) => {
+            let refused = RefusedObject::of(file, input.as_slice(), refusal);
+            let _ = eprintln!(rt; "{refused}");
+            Ok(OrderFault::Json(refusal).status())
+        }
     }
+}
+
+/// Says on standard error why a line of an input, or the line of a log that it tells, is none of a log.
+fn tell_refused<R: Eprint + AllocGlobal>(
+    rt: &R,
+    logs: LogFormat,
+    file: Option<&str>,
+    input: &[u8],
+    refusal: LogLineFault,
+) -> Result<(), BenchFault> {
+    match logs {
+        LogFormat::Text => {
+            let refused = RefusedLine::of(file, input, refusal);
+            let _ = eprintln!(rt; "{refused}");
+        }
+        LogFormat::Json => {
+            let told = ToldLine::of(rt.alloc(), input, refusal.line)?;
+            let refused = told.refused(file, refusal);
+            let _ = eprintln!(rt; "{refused}");
+        }
+    }
+    Ok(())
 }
 
 /// Keeps the furthest order, if a file is named for it, and gives the exit status where that fails.
@@ -60,6 +88,7 @@ fn kept<R: Eprint + Files + AllocGlobal>(
 /// Reports on standard error what came of a search for an order, and gives the exit status.
 fn sum_up<R: Eprint + AllocGlobal>(
     rt: &R,
+    logs: LogFormat,
     file: Option<&str>,
     input: &[u8],
     report: &OrderReport,
@@ -72,7 +101,7 @@ fn sum_up<R: Eprint + AllocGlobal>(
             Ok(DONE)
         }
         OrderAnswer::Nowhere(order) => {
-            let furthest = Furthest::of(rt.alloc(), input, order)?;
+            let furthest = Furthest::of(rt.alloc(), logs, input, order)?;
             let reach = furthest.reach();
             let _ = eprintln!(rt;
                 "zy_bench: there is no order, after {states}: the furthest takes {reach}"
@@ -81,7 +110,7 @@ fn sum_up<R: Eprint + AllocGlobal>(
             Ok(NOWHERE)
         }
         OrderAnswer::Spent(order) => {
-            let furthest = Furthest::of(rt.alloc(), input, order)?;
+            let furthest = Furthest::of(rt.alloc(), logs, input, order)?;
             let reach = furthest.reach();
             let _ = eprintln!(rt;
                 "zy_bench: gave up after {states}: no order was found, and the furthest that was tried takes {reach}"

@@ -24,12 +24,21 @@ impl<'a> RefusedLine<'a> {
         }
     }
 
-    /// The word that does not fit; where it is missing, the end of the line.
-    fn place(self) -> MarkedWord<'a> {
-        let statement = SourceLine::of(self.input, self.refusal.line).statement();
-        let word = statement.word(self.refusal.word);
-        MarkedWord::of(statement.bytes, word.unwrap_or(end_of(statement)))
+    /// The line as far as its comment.
+    fn statement(self) -> Statement<'a> {
+        SourceLine::of(self.input, self.refusal.line).statement()
     }
+
+    /// Whether the line looks like an object.
+    fn is_object(self) -> bool {
+        self.statement().text(0).starts_with(b"{")
+    }
+}
+
+/// The word of this number in a line, from 0; where it is missing, the end of the line.
+pub fn misfit(statement: Statement<'_>, number: usize) -> MarkedWord<'_> {
+    let word = statement.word(number).unwrap_or(end_of(statement));
+    MarkedWord::of(statement.bytes, word)
 }
 
 /// An empty word at the end of a line.
@@ -40,15 +49,20 @@ fn end_of(statement: Statement<'_>) -> SourceWord<'_> {
     }
 }
 
-/// Where it is, the fault's name, what is expected, and the line with the word at fault marked.
+/// Where it is, the fault's name, what is expected, and the line with the word at fault marked; the flag that reads objects, where
+/// the line looks like one.
 impl fmt::Display for RefusedLine<'_> {
     fn fmt<W: fmt::Write>(&self, f: &mut fmt::Formatter<W>) -> fmt::Result {
         let LogLineFault { line, expected, .. } = self.refusal;
-        let (kind, place) = (expected.kind(), self.place());
+        let (kind, place) = (expected.kind(), misfit(self.statement(), self.refusal.word));
         let origin = Origin::at(self.file, place.position(line));
         write!(
             f,
             "{origin}: Input(line {line}, {kind:?}): {expected} ({place})"
-        )
+        )?;
+        if self.is_object() {
+            f.write_str(": --json reads objects")?;
+        }
+        Ok(())
     }
 }

@@ -8,3 +8,4 @@ pub mod Checks
 pub mod Debugs
 pub mod Searching
 pub mod Finding
+pub mod StepObjects

@@ -11,6 +11,8 @@ pub mod laws;
 pub mod output;
 mod same;
 pub mod searching;
+pub mod step_objects;
+mod step_words;
 pub mod threading;
 pub mod wording;
 

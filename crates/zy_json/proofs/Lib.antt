@@ -5,3 +5,4 @@ pub mod AnswerLemmas
 pub mod BackLemmas
 pub mod WordLemmas
 pub mod PlainLemmas
+pub mod LogLemmas

@@ -5,3 +5,4 @@ pub mod Meaning
 pub mod Written
 pub mod Plain
 pub mod Words
+pub mod Logs

@@ -1,6 +1,7 @@
 //! Why a line was not read.
 
 use crate::field::Member;
+use std::alloc::AllocError;
 use thiserror::Error;
 
 /// Why a line is none of a log in JSON. Of several faults the first is reported, in the order of the variants up to `NotObject`,
@@ -32,4 +33,32 @@ pub enum JsonFault {
     /// There is no memory for the line.
     #[error("there is no memory for the line")]
     Memory,
+}
+
+/// The first line of a text that is none of a log in JSON, by its number.
+#[derive(Clone, Copy, Debug, PartialEq, Eq)]
+pub struct JsonLineFault {
+    pub line: usize,
+    /// Why it is none; never that there is no memory.
+    pub fault: JsonFault,
+}
+
+/// Why the lines of a text were not read.
+#[derive(Clone, Copy, Debug, PartialEq, Eq)]
+pub enum JsonLogFault {
+    /// A line is none of a log in JSON.
+    Refused(JsonLineFault),
+    /// There is no memory for the lines.
+    Memory,
+}
+
+impl From<AllocError> for JsonLogFault {
+    ghost use Rattle.std.specs.Prelude.{◌≡◌};
+    ghost use Rattle.zy_json.specs.declared.faults.JsonLogFault.TheVariants.{Memory};
+
+    ghost from_gives = { λ _ e. e ≡ Memory };
+
+    fn from(_e: AllocError) -> JsonLogFault {
+        JsonLogFault::Memory
+    }
 }

@@ -5,6 +5,7 @@
 pub mod faults;
 pub mod field;
 pub mod laws;
+pub mod logs;
 pub mod plain;
 pub mod reading;
 pub mod step;
@@ -12,7 +13,7 @@ pub mod step;
 mod tests;
 pub mod writing;
 
-pub use crate::faults::JsonFault;
+pub use crate::faults::{JsonFault, JsonLineFault, JsonLogFault};
 pub use crate::field::Member;
 pub use crate::plain::PlainStep;
 pub use crate::reading::read;

@@ -18,11 +18,13 @@ use Rattle.zy_order.specs.Answers.{IsInput}
 use Rattle.zy_order.specs.Orders.{choices_of}
 use Rattle.zy_engine.specs.Searching.{history_of}
 use Rattle.zy_ordering.proofs.TakenLemmas.{ran_length}
-use Rattle.zy_ordering.specs.Ordering.{below, AreTxnsOf, Says, ReadsBelow, lines_in, line_below, room}
+use Rattle.zy_ordering.specs.declared.faults.BelowFault.{BelowFault}
+use Rattle.zy_ordering.specs.declared.log_format.LogFormat.{LogFormat}
+use Rattle.zy_ordering.specs.Ordering.{below, AreTxnsOf, Says, SaysIn, ReadsBelow, ReadsLines, lines_in, line_below, room}
 
 -- what was read of a scenario's transactions is what the lines say
 reads_below : (text lines : List ℕ) (sc : Scenario) (txns : Txns) → AreTxnsOf sc text txns
-    → (r : Result (Vec NumberedLine Global) LogFault) → Reads r (logs_of txns (room sc) (line_below text) lines) → ReadsBelow text lines sc r
+    → (r : Result (Vec NumberedLine Global) LogFault) → Reads r (logs_of txns (room sc) (line_below text) lines) → ReadsLines text lines sc r
 reads_below text lines sc txns are (Ok v) is = record { txns = txns; are = are; logs = is }
 reads_below text lines sc txns are (Err (Refused r)) is = record { txns = txns; are = are; logs = is }
 reads_below text lines sc txns are (Err Memory) is = tt
@@ -30,7 +32,7 @@ reads_below text lines sc txns are (Err Memory) is = tt
 -- so is what was read with as much room, from a line of that number on
 pub read_of : (text lines : List ℕ) (sc : Scenario) (txns : Txns) → AreTxnsOf sc text txns → (most first : ℕ)
     → (r : Result (Vec NumberedLine Global) LogFault) → most ≡ room sc → first ≡ line_below text → Reads r (logs_of txns most first lines)
-    → ReadsBelow text lines sc r
+    → ReadsLines text lines sc r
 read_of text lines sc txns are most first r enough number is =
     reads_below text lines sc txns are r
     (subst (λ m. Reads r (logs_of txns m (line_below text) lines)) enough (subst (λ n. Reads r (logs_of txns most n lines)) number is))
@@ -46,10 +48,10 @@ pub below_is : (input lines : List ℕ) (n : ℕ) → lines ≡ drop n input →
 below_is input lines n back cuts = back ∙ ap (λ k. drop k input) cuts
 
 -- so what was read of these is what the input says
-pub reads_cut : (input text lines : List ℕ) (sc : Scenario) (r : Result (Vec NumberedLine Global) LogFault) → text ≡ cut input
-    → lines ≡ below input → ReadsBelow text lines sc r → ReadsBelow (cut input) (below input) sc r
-reads_cut input text lines sc r front back is =
-    subst (λ t. ReadsBelow t (below input) sc r) front (subst (λ l. ReadsBelow text l sc r) back is)
+pub reads_cut : (f : LogFormat) (input text lines : List ℕ) (sc : Scenario) (r : Result (Vec NumberedLine Global) BelowFault) → text ≡ cut input
+    → lines ≡ below input → ReadsBelow f text lines sc r → ReadsBelow f (cut input) (below input) sc r
+reads_cut f input text lines sc r front back is =
+    subst (λ t. ReadsBelow f t (below input) sc r) front (subst (λ l. ReadsBelow f text l sc r) back is)
 
 -- ---- what the lines can be
 
@@ -59,17 +61,17 @@ same_choices [] = refl
 same_choices (line ∷ lines) = ap (λ (cs : List Choice). line.line.choice ∷ cs) (same_choices lines)
 
 -- and they can be logs of steps that follow the scenario's own choices
-pub input_of : (text under : List ℕ) (sc : Scenario) (lines : List NumberedLine) → IsScenario sc → Says text under sc (Ok lines)
+pub input_of : (f : LogFormat) (text under : List ℕ) (sc : Scenario) (lines : List NumberedLine) → IsScenario sc → SaysIn f text under sc (Ok lines)
     → IsInput (history_of None sc) (lines_in lines)
-input_of text under sc lines is says = record {
+input_of f text under sc lines is said = let says = said.says in record {
   named = subst (λ n. AreNamed n (choices_of (lines_in lines))) says.are.count
       (subst (λ cs. AreNamed says.txns.count cs) (sym (same_choices lines))
-      (logs_named says.txns (room sc) (line_below text) under lines says.logs));
+      (logs_named says.txns (room sc) (line_below text) said.logs lines says.logs));
   room = omega (
     arith,
     ran_length sc,
     is.few_choices,
-    logs_few says.txns (room sc) (line_below text) under lines says.logs,
+    logs_few says.txns (room sc) (line_below text) said.logs lines says.logs,
     length-map lines (λ (l : NumberedLine). l.line),
   );
 }

@@ -11,6 +11,7 @@ use Rattle.zy_isa.specs.Limits.{max_choices}
 use Rattle.zy_isa.specs.Scenario.{Scenario}
 use Rattle.zy_text.specs.Cut.{cut}
 use Rattle.zy_text.specs.Lines.{texts}
+use Rattle.zy_text.specs.Words.{lines_of}
 use Rattle.zy_text.specs.Text.{Means}
 use Rattle.zy_threads.specs.Orders.{reordered}
 use Rattle.zy_logs.specs.declared.faults.LogFault.{LogFault}
@@ -20,6 +21,8 @@ use Rattle.zy_logs.specs.declared.log_line.LogLine.{LogLine}
 use Rattle.zy_logs.specs.declared.logs.NumberedLine.{NumberedLine}
 use Rattle.zy_logs.specs.declared.txns.Txns.{Txns}
 use Rattle.zy_logs.specs.Logs.{logs_of}
+use Rattle.zy_json.specs.declared.faults.JsonLineFault.{JsonLineFault}
+use Rattle.zy_json.specs.Logs.{IsFirstNone, TellEach}
 use Rattle.zy_order.specs.declared.answer.OrderAnswer.{OrderAnswer}
 use Rattle.zy_order.specs.declared.answer.OrderAnswer.TheVariants as answer
 use Rattle.zy_order.specs.declared.answer.OrderReport.{OrderReport}
@@ -29,8 +32,13 @@ use Rattle.zy_engine.specs.Engines.{Streams}
 use Rattle.zy_engine.specs.Faults.{IfRefused}
 use Rattle.zy_engine.specs.Inputs.{IsTextFault}
 use Rattle.zy_engine.specs.Searching.{history_of, IsWorded}
+use Rattle.zy_ordering.specs.declared.faults.BelowFault.{BelowFault}
+use Rattle.zy_ordering.specs.declared.faults.BelowFault.TheVariants as misread
 use Rattle.zy_ordering.specs.declared.faults.OrderFault.{OrderFault}
-use Rattle.zy_ordering.specs.declared.faults.OrderFault.TheVariants.{Bench, Log}
+use Rattle.zy_ordering.specs.declared.faults.OrderFault.TheVariants.{Bench, Log, Json}
+use Rattle.zy_ordering.specs.declared.log_format.LogFormat.{LogFormat}
+use Rattle.zy_ordering.specs.declared.log_format.LogFormat.TheVariants as format
+use Rattle.zy_ordering.specs.declared.ordering.OrderOptions.{OrderOptions}
 use Rattle.zy_ordering.specs.Faults.{ReadsInput, failed_reads, failed_writes, IsQuiet}
 use Rattle.zy_ordering.specs.Names.{names_of}
 
@@ -53,17 +61,39 @@ pub record AreTxnsOf (sc : Scenario) (text : List ℕ) (txns : Txns) : Type 0 wh
   pub count : txns.count ≡ length sc.programs
   pub names : texts txns.names.now ≡ names_of text
 
--- what the lines below a scenario's text say, as lines of logs
+-- what the lines of logs below a scenario's text say
 pub record Says (text lines : List ℕ) (sc : Scenario) (said : Result (List NumberedLine) LogLineFault) : Type 0 where
   pub txns : Txns
   pub are : AreTxnsOf sc text txns
   pub logs : logs_of txns (room sc) (line_below text) lines ≡ said
 
--- the answer is what the lines say, unless there was no memory
-abbrev pub ReadsBelow : List ℕ → List ℕ → Scenario → Result (Vec NumberedLine Global) LogFault → Type 0
-ReadsBelow text lines sc (Ok v) = Says text lines sc (Ok v.items)
-ReadsBelow text lines sc (Err (reading.Refused r)) = Says text lines sc (Err r)
-ReadsBelow text lines sc (Err reading.Memory) = Unit {0}
+-- what is below a scenario tells the lines of logs: it has them itself, or each of its lines is the object of one
+abbrev pub TellsLogs : LogFormat → List ℕ → List ℕ → Type 0
+TellsLogs format.Text under logs = logs ≡ under
+TellsLogs format.Json under logs = TellEach (lines_of under) (lines_of logs)
+
+-- what is said by what is below a scenario's text
+pub record SaysIn (f : LogFormat) (text under : List ℕ) (sc : Scenario) (said : Result (List NumberedLine) LogLineFault) : Type 0 where
+  pub logs : List ℕ
+  pub tells : TellsLogs f under logs
+  pub says : Says text logs sc said
+
+-- the first line below a scenario's text that is to be an object and tells no line of a log
+abbrev pub IsNoObject : LogFormat → List ℕ → List ℕ → JsonLineFault → Type 0
+IsNoObject f text under r = (f ≡ format.Json) × IsFirstNone (line_below text) (lines_of under) r
+
+-- the answer is what the lines of logs say, unless there was no memory
+abbrev pub ReadsLines : List ℕ → List ℕ → Scenario → Result (Vec NumberedLine Global) LogFault → Type 0
+ReadsLines text lines sc (Ok v) = Says text lines sc (Ok v.items)
+ReadsLines text lines sc (Err (reading.Refused r)) = Says text lines sc (Err r)
+ReadsLines text lines sc (Err reading.Memory) = Unit {0}
+
+-- the answer is what is said below a scenario, unless there was no memory
+abbrev pub ReadsBelow : LogFormat → List ℕ → List ℕ → Scenario → Result (Vec NumberedLine Global) BelowFault → Type 0
+ReadsBelow f text under sc (Ok v) = SaysIn f text under sc (Ok v.items)
+ReadsBelow f text under sc (Err (misread.Log r)) = SaysIn f text under sc (Err r)
+ReadsBelow f text under sc (Err (misread.Json r)) = IsNoObject f text under r
+ReadsBelow f text under sc (Err misread.Memory) = Unit {0}
 
 -- lines without their numbers
 abbrev pub lines_in : List NumberedLine → List LogLine
@@ -82,17 +112,18 @@ abbrev pub IsAnswerOf : Wording → Scenario → List LogLine → OrderAnswer �
 IsAnswerOf w sc lines a text = IsAnswer (history_of None sc) lines a × IsTextOf w sc a text
 
 -- an answer for the scenario and the logs that an input means, and a text of it
-pub record IsAnswerTo (w : Wording) (input : List ℕ) (a : OrderAnswer) (text : List ℕ) : Type 0 where
+pub record IsAnswerTo (o : OrderOptions) (input : List ℕ) (a : OrderAnswer) (text : List ℕ) : Type 0 where
   pub scenario : Scenario
   pub means : Means (cut input) scenario
   pub lines : List NumberedLine
-  pub says : Says (cut input) (below input) scenario (Ok lines)
-  pub is : IsAnswerOf w scenario (lines_in lines) a text
+  pub says : SaysIn o.logs (cut input) (below input) scenario (Ok lines)
+  pub is : IsAnswerOf o.wording scenario (lines_in lines) a text
 
 -- the fault is the first one of an input; or it is none of an input
-abbrev pub IsFaultOf : List ℕ → OrderFault → Type 0
-IsFaultOf input (Bench f) = IfRefused f (IsTextFault (cut input) f)
-IsFaultOf input (Log r) = (sc : Scenario) × Means (cut input) sc × Says (cut input) (below input) sc (Err r)
+abbrev pub IsFaultOf : OrderOptions → List ℕ → OrderFault → Type 0
+IsFaultOf o input (Bench f) = IfRefused f (IsTextFault (cut input) f)
+IsFaultOf o input (Log r) = (sc : Scenario) × Means (cut input) sc × SaysIn o.logs (cut input) (below input) sc (Err r)
+IsFaultOf o input (Json r) = (sc : Scenario) × Means (cut input) sc × IsNoObject o.logs (cut input) (below input) r
 
 -- ---- what goes out
 
@@ -112,14 +143,14 @@ WroteOrder Is old new before after (Err Write) = WrotePart Is old new × (after 
 WroteOrder Is old new before after (Err Memory) = WrotePart Is old new × (after ≡ before)
 
 -- a call that answers of an input
-pub record Answers (w : Wording) (input : List ℕ) (old new : Option (List ℕ)) (before after : ℕ)
+pub record Answers (o : OrderOptions) (input : List ℕ) (old new : Option (List ℕ)) (before after : ℕ)
     (result : Result OrderReport OrderFault) : Type 0 where
   -- at Ok exactly a text of the answer went out
-  pub answered : IfOk result (λ r. WroteText (IsAnswerTo w input) old new r.answer)
+  pub answered : IfOk result (λ r. WroteText (IsAnswerTo o input) old new r.answer)
   -- whatever comes, nothing but a prefix of a text of an answer did
-  pub part : WrotePart (IsAnswerTo w input) old new
+  pub part : WrotePart (IsAnswerTo o input) old new
   -- a refused input is reported by its first fault
-  pub fault : IfErr result (IsFaultOf input)
+  pub fault : IfErr result (IsFaultOf o input)
   -- before the input is read and accepted nothing is written
   pub quiet : IfErr result (λ f. IsQuiet f → new ≡ old)
   -- each fault of the writer is one failed call, and there is none of the reader
@@ -128,14 +159,14 @@ pub record Answers (w : Wording) (input : List ℕ) (old new : Option (List ℕ)
   pub whole : (x y : Option (List ℕ)) → ReadWhole x y → ReadsInput x y result
 
 -- the engine, which reads the input too
-pub record ConvertsOrder (w : Wording) (old new : Streams) (result : Result OrderReport OrderFault) : Type 0 where
+pub record ConvertsOrder (o : OrderOptions) (old new : Streams) (result : Result OrderReport OrderFault) : Type 0 where
   -- at Ok the answer is one for what the input means, and exactly a text of it went out
   pub answered : IfOk result (λ r. IfSome old.left (λ input.
-      WroteText (IsAnswerTo w input) old.written new.written r.answer))
+      WroteText (IsAnswerTo o input) old.written new.written r.answer))
   -- whatever comes, nothing but a prefix of a text of an answer went out
-  pub part : IfSome old.left (λ input. WrotePart (IsAnswerTo w input) old.written new.written)
+  pub part : IfSome old.left (λ input. WrotePart (IsAnswerTo o input) old.written new.written)
   -- a refused input is reported by its first fault
-  pub fault : IfErr result (λ f. IfSome old.left (λ input. IsFaultOf input f))
+  pub fault : IfErr result (λ f. IfSome old.left (λ input. IsFaultOf o input f))
   -- the input is read whole; only where it has more than max_input bytes is it too long, and then one byte more is read
   pub input : ReadsInput old.left new.left result
   -- before the input is read and accepted nothing is written

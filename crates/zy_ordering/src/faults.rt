@@ -2,13 +2,25 @@
 ghost use Rattle.std.specs.Prelude.{◌≡◌};
 ghost use Rattle.zy_engine.specs.Faults.{of_reading, of_writing};
 ghost use Rattle.zy_ordering.specs.declared.faults.OrderFault.TheVariants.{Bench};
-ghost use Rattle.zy_ordering.specs.Faults.{of_logs, status_of};
+ghost use Rattle.zy_ordering.specs.Faults.{of_below, of_logs, of_objects, status_of};
 
 use std::alloc::AllocError;
 use std::fmt;
 use zy_engine::BenchFault;
 use zy_io::TextFault;
-use zy_logs::LogLineFault;
+use zy_json::{JsonLineFault, JsonLogFault};
+use zy_logs::{LogFault, LogLineFault};
+
+/// Why the lines below a scenario are not read. A number is that of the line of the whole input.
+#[derive(Clone, Copy)]
+pub enum BelowFault {
+    /// A line is none of a log, or is one too many.
+    Log(LogLineFault),
+    /// A line is to be an object, and is none that tells a line of a log.
+    Json(JsonLineFault),
+    /// A request for memory was refused.
+    Memory,
+}
 
 /// Why the engine gave up. Its text names the fault, and says what is wrong.
 #[derive(Clone, Copy)]
@@ -17,16 +29,20 @@ pub enum OrderFault {
     Bench(BenchFault),
     /// A line below the scenario is none of a log, or is one too many. The number is that of the line of the whole input.
     Log(LogLineFault),
+    /// A line below the scenario is to be an object, and is none that tells a line of a log. The number is that of the line of the
+    /// whole input.
+    Json(JsonLineFault),
 }
 
 impl OrderFault {
-    /// The exit status: that of the other engines, and 1 for a line of a log.
+    /// The exit status: that of the other engines, and 1 for a line below the scenario.
     pub fn status(self) -> u8
         ensures { result ≡ status_of self }
     {
         match self {
             OrderFault::Bench(fault) => fault.status(),
             OrderFault::Log(_) => 1,
+            OrderFault::Json(_) => 1,
         }
     }
 }
@@ -39,6 +55,9 @@ impl fmt::Display for OrderFault {
             OrderFault::Log(LogLineFault { line, expected, .. }) => {
                 let kind = expected.kind();
                 write!(f, "Input(line {line}, {kind:?}): {expected}")
+            }
+            OrderFault::Json(JsonLineFault { line, fault }) => {
+                write!(f, "Input(line {line}, Json): {fault}")
             }
         }
     }
@@ -60,13 +79,36 @@ impl From<zy_io::ReadFault> for OrderFault {
     }
 }
 
-impl From<zy_logs::LogFault> for OrderFault {
+impl From<LogFault> for BelowFault {
     ghost from_gives = { λ f e. e ≡ of_logs f };
 
-    fn from(fault: zy_logs::LogFault) -> OrderFault {
+    fn from(fault: LogFault) -> BelowFault {
         match fault {
-            zy_logs::LogFault::Refused(refusal) => OrderFault::Log(refusal),
-            zy_logs::LogFault::Memory => OrderFault::Bench(BenchFault::Memory),
+            LogFault::Refused(refusal) => BelowFault::Log(refusal),
+            LogFault::Memory => BelowFault::Memory,
+        }
+    }
+}
+
+impl From<JsonLogFault> for BelowFault {
+    ghost from_gives = { λ f e. e ≡ of_objects f };
+
+    fn from(fault: JsonLogFault) -> BelowFault {
+        match fault {
+            JsonLogFault::Refused(refusal) => BelowFault::Json(refusal),
+            JsonLogFault::Memory => BelowFault::Memory,
+        }
+    }
+}
+
+impl From<BelowFault> for OrderFault {
+    ghost from_gives = { λ f e. e ≡ of_below f };
+
+    fn from(fault: BelowFault) -> OrderFault {
+        match fault {
+            BelowFault::Log(refusal) => OrderFault::Log(refusal),
+            BelowFault::Json(refusal) => OrderFault::Json(refusal),
+            BelowFault::Memory => OrderFault::Bench(BenchFault::Memory),
         }
     }
 }

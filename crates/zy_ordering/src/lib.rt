@@ -4,9 +4,11 @@
 pub mod behind;
 pub mod faults;
 pub mod laws;
+pub mod log_format;
 pub mod logs_below;
 pub mod names;
 pub mod ordering;
 
-pub use crate::faults::OrderFault;
+pub use crate::faults::{BelowFault, OrderFault};
+pub use crate::log_format::LogFormat;
 pub use crate::ordering::OrderOptions;

@@ -1,12 +1,15 @@
 //! The logs that are below a scenario.
-ghost use Rattle.std.specs.Prelude.{◌≡◌, ◌==◌, ◌≤◌, ◌+◌, count_by, length, map, IfOk};
+ghost use Rattle.std.specs.Prelude.{◌≡◌, ◌==◌, ◌<◌, ◌≤◌, ◌^◌, count_by, length, IfOk};
 ghost use Rattle.zy_isa.specs.Limits.{max_txns};
 ghost use Rattle.zy_io.specs.Streams.{max_input};
-ghost use Rattle.zy_ordering.specs.Ordering.{lines_in, ReadsBelow};
+ghost use Rattle.zy_ordering.specs.Ordering.{line_below, lines_in, ReadsBelow, ReadsLines};
 
+use crate::faults::BelowFault;
+use crate::log_format::LogFormat;
 use crate::names::names_of;
 use std::alloc::{AllocError, Global};
 use zy_isa::{MAX_CHOICES, Scenario};
+use zy_json::logs::read_objects;
 use zy_logs::logs::read_logs;
 use zy_logs::{LogFault, LogLine, NumberedLine, Txns};
 
@@ -17,16 +20,24 @@ fn line_ends(bytes: &[u8]) -> usize
     bytes.iter().filter(|byte| **byte == b'\n').count()
 }
 
-/// Reads the lines below a scenario's text as lines of logs of its transactions, no more than it has room for choices. Each
-/// has its number in the whole input.
-pub fn read_below(
+/// The number of the line below a scenario's text.
+fn first_below(text: &[u8]) -> usize
+    requires { length text.now ≤ max_input }
+    ensures { result ≡ line_below text.now }
+{
+    1 + line_ends(text)
+}
+
+/// Reads the lines of logs below a scenario's text, no more than it has room for choices. Each has its number in the whole
+/// input.
+fn read_lines(
     alloc: Global,
     scenario: &Scenario,
     text: &[u8],
-    below: &[u8],
+    lines: &[u8],
 ) -> Result<Vec<NumberedLine>, LogFault>
-    requires { (length text.now ≤ max_input) × (length below.now ≤ max_input) }
-    ensures { ReadsBelow text.now below.now scenario.now result }
+    requires { (length text.now ≤ max_input) × (length lines.now < 2 ^ 63) }
+    ensures { ReadsLines text.now lines.now scenario.now result }
 {
     let names = names_of(alloc, text)?;
     let txns = Txns {
@@ -34,8 +45,33 @@ pub fn read_below(
         names: &names,
     };
     let most = MAX_CHOICES.saturating_sub(scenario.choices().len());
-    let first = 1 + line_ends(text);
-    read_logs(alloc, txns, most, first, below)
+    read_logs(alloc, txns, most, first_below(text), lines)
+}
+
+/// Reads what is below a scenario's text as lines of logs of its transactions, no more than it has room for choices. Each has
+/// its number in the whole input. Of objects the first one that tells no line of a log is reported, before any fault of what
+/// the others tell.
+pub fn read_below(
+    alloc: Global,
+    format: LogFormat,
+    scenario: &Scenario,
+    text: &[u8],
+    below: &[u8],
+) -> Result<Vec<NumberedLine>, BelowFault>
+    requires { (length text.now ≤ max_input) × (length below.now ≤ max_input) }
+    ensures { ReadsBelow format text.now below.now scenario.now result }
+{
+    match format {
+        LogFormat::Text => {
+            let lines = read_lines(alloc, scenario, text, below)?;
+            Ok(lines)
+        }
+        LogFormat::Json => {
+            let logs = read_objects(alloc, first_below(text), below)?;
+            let lines = read_lines(alloc, scenario, text, &logs)?;
+            Ok(lines)
+        }
+    }
 }
 
 /// The lines without their numbers.

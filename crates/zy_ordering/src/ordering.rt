@@ -7,6 +7,7 @@ ghost use Rattle.zy_order.specs.Answers.{IsInput};
 ghost use Rattle.zy_ordering.specs.Ordering.{lines_in, Answers, ConvertsOrder, IsAnswerOf, IsTextOf, WroteOrder};
 
 use crate::faults::OrderFault;
+use crate::log_format::LogFormat;
 use crate::logs_below::{read_below, without_numbers};
 use std::alloc::Global;
 use zy_engine::format::accept;
@@ -26,6 +27,8 @@ use zy_text::cut::cut_len;
 pub struct OrderOptions {
     /// How the scenario is written that goes out.
     pub wording: Wording,
+    /// How the lines of logs are written.
+    pub logs: LogFormat,
     /// The most states that may be reached.
     pub most: u32,
 }
@@ -82,12 +85,12 @@ fn answer<K: Sink>(
 ) -> Result<OrderReport, OrderFault>
     requires few { length input.now ≤ max_input }
     requires calls { K.failures sink.old < u64.MAX }
-    ensures { Answers options.wording input.now (K.written sink.old) (K.written sink.new) (K.failures sink.old)
+    ensures { Answers options input.now (K.written sink.old) (K.written sink.new) (K.failures sink.old)
         (K.failures sink.new) result }
 {
     let (text, below) = input.split_at(cut_len(input));
     let scenario = accept(alloc, Format::Text, text)?;
-    let lines = read_below(alloc, &scenario, text, below)?;
+    let lines = read_below(alloc, options.logs, &scenario, text, below)?;
     let report = write_order(alloc, options, text, scenario, &lines, sink)?;
     Ok(report)
 }
@@ -105,7 +108,7 @@ pub fn order_bytes<S: Source, K: Sink>(
 ) -> Result<OrderReport, OrderFault>
     requires { (S.failures source.old < u64.MAX) × (K.failures sink.old < u64.MAX) }
     ensures { let at = streams S.left S.failures S.given K.written K.failures in
-        ConvertsOrder options.wording (at source.old sink.old) (at source.new sink.new) result }
+        ConvertsOrder options (at source.old sink.old) (at source.new sink.new) result }
 {
     let bytes = read_all(alloc, source)?;
     *input = bytes;

@@ -8,30 +8,40 @@ use std::alloc::Global;
 use zy_engine::checking::check_bytes;
 use zy_engine::debugging::debug_bytes;
 use zy_engine::engine::{asm_bytes, dis_bytes, run_bytes, trace_bytes};
+use zy_engine::step_objects::objects_bytes;
 use zy_engine::{Format, Wording};
 use zy_image::save::save;
 use zy_io::{SliceSource, VecSink};
 use zy_listing::run::write_run;
-use zy_ordering::OrderOptions;
 use zy_ordering::ordering::order_bytes;
+use zy_ordering::{LogFormat, OrderOptions};
 
 /// An engine, and what it reads.
 #[derive(Clone, Copy)]
 enum Engine {
     RunText,
     RunImage,
+    Objects,
     Trace,
     Asm,
     Dis,
     Check,
     Debug,
     Order,
+    OrderObjects,
 }
 
 /// What an order is looked for by.
 const OPTIONS: OrderOptions = OrderOptions {
     wording: Wording::Own,
+    logs: LogFormat::Text,
     most: 100,
+};
+
+/// The same, where the logs are objects.
+const OPTIONS_OF_OBJECTS: OrderOptions = OrderOptions {
+    logs: LogFormat::Json,
+    ..OPTIONS
 };
 
 /// Lets an engine work.
@@ -53,12 +63,26 @@ fn work(
             sink,
             &mut input,
         ))),
+        Engine::Objects => tested(ended(objects_bytes(
+            alloc,
+            Format::Text,
+            source,
+            sink,
+            &mut input,
+        ))),
         Engine::Trace => tested(ended(trace_bytes(alloc, Format::Text, source, sink, &mut input))),
         Engine::Asm => tested(asm_bytes(alloc, source, sink, &mut input)),
         Engine::Dis => tested(dis_bytes(alloc, source, sink, &mut input)),
         Engine::Check => tested(ended(check_bytes(alloc, source, sink))),
         Engine::Debug => tested(debug_bytes(alloc, 2, 1, source, sink, &mut input)),
         Engine::Order => tested(ended(order_bytes(alloc, OPTIONS, source, sink, &mut input))),
+        Engine::OrderObjects => tested(ended(order_bytes(
+            alloc,
+            OPTIONS_OF_OBJECTS,
+            source,
+            sink,
+            &mut input,
+        ))),
     }
 }
 
@@ -104,17 +128,19 @@ fn sweep_listing(alloc: Global, input: &[u8]) -> Result<Findings, Refused> {
 }
 
 /// The sweep of this name, over a scenario's text, if it is one of these. That of `debug_bytes` has commands below it, and
-/// that of `order_bytes` logs.
+/// that of `order_bytes` logs, of `order_objects_bytes` logs of objects.
 pub fn sweep_named(name: &str, alloc: Global, input: &[u8]) -> Option<Result<Findings, Refused>> {
     match name {
         "run_bytes" => Some(Ok(sweep_engine(alloc, Engine::RunText, input))),
         "run_image_bytes" => Some(sweep_image(alloc, Engine::RunImage, input)),
+        "objects_bytes" => Some(Ok(sweep_engine(alloc, Engine::Objects, input))),
         "trace_bytes" => Some(Ok(sweep_engine(alloc, Engine::Trace, input))),
         "asm_bytes" => Some(Ok(sweep_engine(alloc, Engine::Asm, input))),
         "dis_bytes" => Some(sweep_image(alloc, Engine::Dis, input)),
         "check_bytes" => Some(sweep_listing(alloc, input)),
         "debug_bytes" => Some(Ok(sweep_engine(alloc, Engine::Debug, input))),
         "order_bytes" => Some(Ok(sweep_engine(alloc, Engine::Order, input))),
+        "order_objects_bytes" => Some(Ok(sweep_engine(alloc, Engine::OrderObjects, input))),
         _ => None,
     }
 }

@@ -1,0 +1,94 @@
+//! The engine that writes the steps of a run as objects of JSON, each of which is a line of a log.
+ghost use Rattle.std.specs.Prelude.{◌≡◌, ◌<◌, IfOk, map};
+ghost use Rattle.zy_io.specs.Writing.{Wrote};
+ghost use Rattle.zy_table.specs.Play.{entries, opening, play};
+ghost use Rattle.zy_engine.specs.Engines.{Converts, streams};
+ghost use Rattle.zy_engine.specs.StepObjects.{object_text, objects_text};
+
+use crate::faults::BenchFault;
+use crate::format::{Format, read_scenario};
+use crate::step_words::{ActionText, KindText, OutcomeText};
+use std::alloc::{AllocError, Global};
+use zy_io::{AllLines, Line, LineBuffer, Lines, Section, Sink, Source, TextFault};
+use zy_isa::Scenario;
+use zy_json::PlainStep;
+use zy_machine::Machine;
+use zy_table::Entry;
+
+/// A step as an object, with all that a log can tell of it.
+#[derive(Clone, Copy)]
+struct StepObject<'a>(&'a Entry);
+
+impl Line for StepObject<'_> {
+    ghost text = { λ s. object_text s.0.now };
+
+    fn append(&self, line: &mut LineBuffer) -> Result<(), AllocError> {
+        let Entry {
+            choice,
+            outcome,
+            sent,
+        } = *self.0;
+        let object = PlainStep {
+            actor: choice.actor(),
+            action: ActionText(choice),
+            came: Some(OutcomeText(outcome)),
+            sent: sent.map(KindText),
+        };
+        object.append(line)
+    }
+}
+
+/// Each step as an object.
+#[derive(Clone, Copy)]
+struct StepObjects<'a>(&'a [Entry]);
+
+impl Lines for StepObjects<'_> {
+    ghost texts = { λ s. map object_text s.0.now };
+
+    fn len(&self) -> usize {
+        self.0.len()
+    }
+
+    fn append(&self, place: usize, line: &mut LineBuffer) -> Result<(), AllocError> {
+        StepObject(&self.0[place]).append(line)
+    }
+}
+
+/// Makes the choices of a scenario, and writes the object of each step. It gives the machine that has made them.
+fn write_objects<K: Sink>(
+    alloc: Global,
+    scenario: Scenario,
+    sink: &mut K,
+) -> Result<Machine, TextFault>
+    requires { K.failures sink.old < u64.MAX }
+    ensures wrote { Wrote (K.written sink.old) (K.written sink.new) (K.failures sink.old) (K.failures sink.new) result
+        (objects_text scenario) }
+    ensures machine { IfOk result (λ m. m ≡ record {
+      scenario = scenario;
+      state = play scenario (opening scenario) scenario.choices;
+      entries = entries scenario (opening scenario) scenario.choices;
+    }) }
+{
+    let machine = Machine::run_all(alloc, scenario)?;
+    let mut line = LineBuffer::new(alloc);
+    AllLines(StepObjects(machine.entries())).write(sink, &mut line)?;
+    Ok(machine)
+}
+
+/// Reads a scenario whole, makes its choices, writes the object of each step on a line of its own, in the order of the steps,
+/// and gives the machine that has made them. The bytes that were read are left in `input`.
+pub fn objects_bytes<S: Source, K: Sink>(
+    alloc: Global,
+    format: Format,
+    source: &mut S,
+    sink: &mut K,
+    input: &mut Vec<u8>,
+) -> Result<Machine, BenchFault>
+    requires { (S.failures source.old < u64.MAX) × (K.failures sink.old < u64.MAX) }
+    ensures { let at = streams S.left S.failures S.given K.written K.failures in
+        Converts format objects_text (at source.old sink.old) (at source.new sink.new) result }
+{
+    let scenario = read_scenario(alloc, format, source, input)?;
+    let machine = write_objects(alloc, scenario, sink)?;
+    Ok(machine)
+}

@@ -1,0 +1,80 @@
+"""Lines of logs as objects of JSON, written in any way that JSON has, and such that are damaged."""
+
+import json
+import re
+
+# What an object may have besides: other fields, whatever their values and however often they come.
+OTHERS = ('"time":1764345600.25', '"seen":["did",{"do":null}]', '"Actor":"C"', '"time":-0', '"\\u2028":"\u00e9"')
+SPACES = ('', '', '', ' ', '\t', '\r', ' \t ')
+ESCAPES = {' ': '\\u0020', '!': '\\u0021', '0': '\\u0030', '?': '\\u003F', '\t': '\\t'}
+
+
+def fields_of(line):
+    """The fields of a line of a log; none where it has no words."""
+    line = line.split(';')[0].strip(' \t\r')
+    if not line:
+        return None
+    actor, rest = re.split('[ \t]+', line, maxsplit=1)
+    rest, *sent = re.split('[ \t]+![ \t]*', rest)
+    action, *came = re.split('[ \t]+->[ \t]*', rest)
+    return {'actor': actor, 'do': action, **({'came': came[0]} if came else {}), **({'sent': sent[0]} if sent else {})}
+
+
+def string(chance, text):
+    """A text as a string of JSON, some of its signs by their escapes."""
+    signs = [ESCAPES.get(sign, '\\u%04x' % ord(sign)) if sign == '\t' or chance.random() < 0.1 else sign for sign in text]
+    return '"%s"' % ''.join(signs)
+
+
+def written(chance, fields):
+    """Fields as one line of JSON: in any order, with spaces and other fields between."""
+    space = lambda: chance.choice(SPACES)
+    members = [space() + string(chance, name) + space() + ':' + space() + string(chance, text) + space() for name, text in fields.items()]
+    members += chance.sample(OTHERS, chance.choice([0, 0, 1, 2]))
+    chance.shuffle(members)
+    return space() + '{' + ','.join(members) + '}' + space()
+
+
+def objects_below(chance, text):
+    """An input of logs with objects in place of the lines below its scenario, and as many lines."""
+    lines = text.split('\n')
+    end = next(i for i, line in enumerate(lines) if line.split(';')[0].split() == ['end'])
+    below = [fields_of(line) for line in lines[end + 1:]]
+    return '\n'.join(lines[:end + 1] + [chance.choice(SPACES) if fields is None else written(chance, fields) for fields in below])
+
+
+def plain(fields):
+    """Fields as `run --json` writes them."""
+    return json.dumps(fields, separators=(',', ':'))
+
+
+# Objects that are damaged, and what is said of each.
+FIELD = 'the field "%s" %s'
+SIGNS = 'has no line feed, no !, no ; and no >'
+NO_OBJECT = 'a line is one object, as {"actor":"A","do":"run 0","came":"did"}'
+DAMAGED = (
+    ('A run 0 -> did', 'the line is no JSON (byte 0)'),
+    ('; {"actor":"A","do":"run 0"}', 'the line is no JSON (byte 0)'),
+    ('{"actor":"A","do":"run 0"} ; did', None),
+    ('{"actor":"A","do":"run 0"', None),
+    ('{"actor":"A","do":"run 0",}', None),
+    ("{'actor':'A','do':'run 0'}", None),
+    ('{"actor":"A","do":"run 0"}{"actor":"A","do":"run 0"}', None),
+    ('"A run 0"', NO_OBJECT),
+    ('[{"actor":"A","do":"run 0"}]', NO_OBJECT),
+    ('null', NO_OBJECT),
+    ('{}', FIELD % ('actor', 'is missing')),
+    ('{"do":"run 0","came":"did"}', FIELD % ('actor', 'is missing')),
+    ('{"actor":"A","Do":"run 0"}', FIELD % ('do', 'is missing')),
+    ('{"actor":"A","do":"run 0","actor":"A"}', FIELD % ('actor', 'comes twice')),
+    ('{"actor":"A","do":"run 0","came":"did","came":"did"}', FIELD % ('came', 'comes twice')),
+    ('{"actor":1,"do":"run 0"}', FIELD % ('actor', 'is no string; leave it out where there is nothing to tell')),
+    ('{"actor":"A","do":["run",0]}', FIELD % ('do', 'is no string; leave it out where there is nothing to tell')),
+    ('{"actor":"A","do":"run 0","came":null}', FIELD % ('came', 'is no string; leave it out where there is nothing to tell')),
+    ('{"actor":"A","do":"run 0","sent":false}', FIELD % ('sent', 'is no string; leave it out where there is nothing to tell')),
+    ('{"actor":"a","do":"run 0"}', 'the field "actor" is "C", "A" or "B"'),
+    ('{"actor":"A","do":"run 0 -> did"}', FIELD % ('do', SIGNS)),
+    ('{"actor":"A","do":"run 0","came":"did ! pull"}', FIELD % ('came', SIGNS)),
+    ('{"actor":"A","do":"run 0","came":"did\\nB push"}', FIELD % ('came', SIGNS)),
+    ('{"actor":"A","do":"run 0","sent":"pull ; late"}', FIELD % ('sent', SIGNS)),
+)
