@@ -7,7 +7,7 @@ use Rattle.zy_node.specs.declared.node_store.NodeStore.{NodeStore}
 use Rattle.zy_txns.specs.Books.{Ledger}
 use Rattle.zy_table.specs.declared.answer.Answer.{Answer}
 use Rattle.zy_rules.specs.Parts.{here}
-use Rattle.zy_table.specs.Answers.{MakesAt as MakesHere}
+use Rattle.zy_table.specs.Answers.{Makes as MakesHere}
 use Rattle.zy_node.specs.Mail.{Mail}
 use Rattle.zy_node.specs.Nodes.{node_shown, Limits, IsLimited}
 use Rattle.zy_rules.specs.Arrivals.{MayTake, MayTakeFrom}

@@ -30,7 +30,7 @@ pub fn lows(wire: &Option<Wire>) -> &[u16]
 }
 
 /// The page that a key lies on; 0 where there is none.
-#[tactic(auto, unfolding(zy_wire::specs::Wireframe::page_of))]
+#[tactic(auto, unfolding(zy_model::specs::Wireframe::page_of))]
 pub fn page_of(wire: &Option<Wire>, key: u16) -> u16
     ensures value { result ≡ wireframe.page_of (lows_in wire.now) key }
     ensures few { (n : ℕ) → limit_or n wire.now ≤ n → 0 < n → result < n }
@@ -42,7 +42,7 @@ pub fn page_of(wire: &Option<Wire>, key: u16) -> u16
 }
 
 /// The keys that lie on a page. Without pages every key counts as one of page 0, as in `page_of`.
-#[tactic(auto, unfolding(zy_wire::specs::Wireframe::page_of))]
+#[tactic(auto, unfolding(zy_model::specs::Wireframe::page_of))]
 pub fn keys_of(wire: &Option<Wire>, page: u16) -> KeyRange
     ensures { (k : ℕ) → in_range result k ≡ (wireframe.page_of (lows_in wire.now) k == page) }
 {

@@ -1,4 +1,4 @@
-use Rattle.zy_disasm.proofs.head.HeadSection.write.Goals as goal
+use Rattle.zy_disasm.proofs.head.ScenarioHeadSection.write.Goals as goal
 
 pub returns : goal.returns
 returns g c =
