@@ -11,7 +11,7 @@ _zy_bench() {
     debug) options='--every --ring --help' ;;
     search) options='--image --for --always --from --kill --without --states --threads --canon --help' ;;
     find) options='--image --for --always --help' ;;
-    order) options='--states --canon --furthest --help' ;;
+    order) options='--gap --states --canon --furthest --help' ;;
     help) options='run asm dis check threads trace debug search find order' ;;
     *) options='--help' ;;
   esac

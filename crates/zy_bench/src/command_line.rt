@@ -348,11 +348,21 @@ const ORDER_HELP: &'static str = concat!(
     "\n",
     "Lines:   CHOICE -> OUTCOME ! KIND, in the words of a listing, where ! KIND is the message that was\n",
     "         sent. CHOICE alone, or CHOICE -> ?, says nothing of what came. Numbers of an outcome may\n",
-    "         be left out from the end on: docs/order.md has the form\n",
+    "         be left out from the end on: docs/order.md has the form. C ..., A ... and B ... stand for\n",
+    "         steps of the actor that its log lacks there, or for none: at most N of --gap N\n",
     "\n",
     "Example:\n",
     "  cat SCENARIO client.log a.log b.log | zy_bench order | zy_bench run"
 );
+
+/// `--gap`.
+fn gap_argument<'a>(alloc: Global) -> Arg<'a> {
+    Arg::new(alloc, "gap")
+        .long("gap")
+        .value_name("N")
+        .value_parser(value_parser!(u16).range(1..=64))
+        .help("Lets a line ... stand for at most N missing steps: 1 to 64, default 4")
+}
 
 /// `--furthest`.
 fn furthest_argument<'a>(alloc: Global) -> Arg<'a> {
@@ -367,6 +377,7 @@ fn order_command<'a>(alloc: Global) -> Result<Command<'a>, AllocError> {
     Command::new(alloc, "order")
         .about("Looks for an order of three logs that the step table allows")
         .after_help(ORDER_HELP)
+        .arg(gap_argument(alloc))?
         .arg(states_argument(alloc))?
         .arg(canon_flag(alloc))?
         .arg(furthest_argument(alloc))?
@@ -446,6 +457,7 @@ fn order_of<'a>(words: &ArgMatches<'a>) -> LogQuest<'a> {
     LogQuest {
         options: OrderOptions {
             wording: wording_of(words),
+            gap: words.get_one("gap").unwrap_or(4),
             most: most_of(words),
         },
         furthest: words.get_str("furthest"),

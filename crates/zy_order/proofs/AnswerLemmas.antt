@@ -62,7 +62,7 @@ module _ (h : History) (lines : List LogLine) (gaps : Gaps) (l : Logs) (is : Are
   of_lines : (x : Actor) (k : ℕ) (order : List LogLine) → Completes count x k (log_of x l) (gaps_of x l.gaps) order
       → Completes count x k (lines_of x lines) (gaps_of x gaps) order
   of_lines x k order c =
-      subst (λ (g : Gaps). Completes count x k (lines_of x lines) (gaps_of x g) order) is.gaps
+      subst (λ (g : Gaps). Completes count x k (lines_of x lines) (gaps_of x g) order) is.of_gaps
       (subst (λ (ls : List LogLine). Completes count x k ls (gaps_of x l.gaps) order) (log_is x lines gaps l is) c)
 
   -- the other way
@@ -70,7 +70,7 @@ module _ (h : History) (lines : List LogLine) (gaps : Gaps) (l : Logs) (is : Are
       → Completes count x k (log_of x l) (gaps_of x l.gaps) order
   of_logs x k order c =
       subst (λ (ls : List LogLine). Completes count x k ls (gaps_of x l.gaps) order) (sym (log_is x lines gaps l is))
-      (subst (λ (g : Gaps). Completes count x k (lines_of x lines) (gaps_of x g) order) (sym is.gaps) c)
+      (subst (λ (g : Gaps). Completes count x k (lines_of x lines) (gaps_of x g) order) (sym is.of_gaps) c)
 
   -- the choices of a way are those of an order of prefixes, which takes as many lines as the way matches
   order_by : (cs : List Choice) (to : Cursors) → IsWay h.scenario l at_start h.state cs to

@@ -1,5 +1,5 @@
 -- Lines that complete the first lines of a log.
-use Rattle.std.proofs.Common.{◌≡◌, ◌∙◌, ℕ, zero, suc, ◌+◌, ◌<◌, ◌≤◌, ◌⊎◌, inl, inr, List, [], ◌∷◌, ◌++◌, length, refl, sym, ap, subst, arith, drop, get_or, slice_get, Some}
+use Rattle.std.proofs.Common.{◌≡◌, ◌∙◌, ℕ, zero, suc, ◌+◌, ◌-◌, ◌<◌, ◌≤◌, ◌⊎◌, inl, inr, List, [], ◌∷◌, ◌++◌, length, refl, sym, ap, subst, arith, drop, get_or, slice_get, Some}
 use Rattle.std.proofs.lemmas.Option.{slice_get_within, get_or_from_slice_get}
 use Rattle.std.proofs.lemmas.List.{drop_more}
 use Rattle.zy_isa.specs.declared.node.Actor.{Actor}
@@ -163,6 +163,7 @@ ahead_line count x log gaps g end line lines many is at a =
     let n = gap_at gaps g - g.missing in
     let first : Completes count x (suc a.k) (line ∷ drop (g.lines + 1) log) (n ∷ a.n ∷ a.behind) (line ∷ lines) =
     line_first count n x a.k line (drop (g.lines + 1) log) (a.n ∷ a.behind) lines a.completes in
+    let next : drop (g.lines + 1) gaps ≡ a.n ∷ a.behind = a.gaps_left ∙ ap (λ l. l ∷ a.behind) (omega arith) in
     let left : gap_at gaps g ∷ drop (g.lines + 1) gaps ≡ (g.missing + n) ∷ drop (g.lines + 1) gaps =
     ap (λ m. m ∷ drop (g.lines + 1) gaps) (omega (arith, is.missing)) in
     record {
@@ -170,7 +171,7 @@ ahead_line count x log gaps g end line lines many is at a =
       n = n;
       behind = a.n ∷ a.behind;
       up_to = omega (arith, a.up_to);
-      gaps_left = gap_there log gaps g many is ∙ (left ∙ ap (λ ms. (g.missing + n) ∷ ms) a.gaps_left);
+      gaps_left = gap_there log gaps g many is ∙ (left ∙ ap (λ ms. (g.missing + n) ∷ ms) next);
       completes = subst (λ (ls : List LogLine). Completes count x (suc a.k) ls (n ∷ a.n ∷ a.behind) (line ∷ lines)) (sym (drop_at log g.lines line at))
           first;
     }
@@ -215,7 +216,7 @@ next_line count x log gaps g end k n (m ∷ behind) line left lines up gaps_left
     n = m;
     behind = behind;
     up_to = omega (arith, up);
-    gaps_left = rest_drop gaps g.lines n (m ∷ behind) gaps_left;
+    gaps_left = rest_drop gaps g.lines n (m ∷ behind) gaps_left ∙ ap (λ l. l ∷ behind) (omega arith);
     completes = subst (λ (ls : List LogLine). Completes count x k ls (m ∷ behind) lines) (sym (rest_drop log g.lines line left at)) c;
   };
 }
@@ -270,7 +271,7 @@ pub ahead_start : (count : ℕ) (x : Actor) (log : List LogLine) (gaps : List �
     → Ahead count x log gaps log_start k lines
 ahead_start count x log [] k lines c = absurd c
 ahead_start count x log (n ∷ gaps) k lines c =
-    record { k = k; n = n; behind = gaps; up_to = omega arith; gaps_left = refl; completes = c }
+    record { k = k; n = n; behind = gaps; up_to = omega arith; gaps_left = ap (λ m. m ∷ gaps) (omega arith); completes = c }
 
 -- the other way
 pub ahead_whole : (count : ℕ) (x : Actor) (log : List LogLine) (gaps : List ℕ) (end : ℕ) (lines : List LogLine) → Ahead count x log gaps log_start end lines

@@ -1,3 +1,4 @@
+pub mod GapLemmas
 pub mod WayLemmas
 pub mod OrderLemmas
 pub mod LineLemmas

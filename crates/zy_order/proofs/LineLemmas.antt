@@ -98,13 +98,13 @@ plan_is p h lines gaps same is input choices =
     record {
       lines = λ x. subst (AreLinesOf count x) (sym (log_is x lines gaps p.logs is)) (lines_are_of count x lines named);
       gaps = λ x.
-          ap (λ (g : Gaps). length (gaps_of x g)) is.gaps ∙ (input.gaps x
+          ap (λ (g : Gaps). length (gaps_of x g)) is.of_gaps ∙ (input.gaps x
           ∙ ap (λ (ls : List LogLine). length ls + 1) (sym (log_is x lines gaps p.logs is)));
       room = omega (
         arith,
         input.room,
         logs_count lines gaps p.logs is,
-        ap gap_count is.gaps,
+        ap gap_count is.of_gaps,
         ap (λ (k : History). length k.entries) same,
       );
       choices = choices ∙ ap (λ (k : History). considered all_kinds (length k.scenario.programs)) (sym same);

@@ -161,6 +161,17 @@ all_tried h l r at n cs e le tried = λ c named.
     let is : get_or cs here.0 Start ≡ c = ap (λ (ds : List Choice). get_or ds here.0 Start) e ∙ here.2 in
     subst (IsTried h l r at) is (tried here.0 (omega (arith, here.1, all, le)))
 
+-- where each choice was tried and then each next line met, the path was followed
+pub is_followed : (h : History) (l : Logs) (r new last : Reached) (at : ℕ) → at < length r.visited → Extends r new → Extends new last
+    → (AreMatched l (cursors_at r at) → ⊥) → AreTried h l new at → AreMet h l last at → IsFollowed h l last at
+is_followed h l r new last at lt x y part tried met =
+    let there : at < length new.visited = omega (arith, lt, x.paths.longer) in
+    record {
+      part = λ end. part (subst (AreMatched l) (y.cursors at there ∙ x.cursors at lt) end);
+      tried = λ c named. tried_on h l new last at c y there (tried c named);
+      met = met;
+    }
+
 -- ---- results
 
 -- what follows of a call's result from what holds where it succeeds

@@ -1,5 +1,5 @@
 -- Orders of lines, and ways along the logs: the choices of one are the other.
-use Rattle.std.proofs.Common.{◌≡◌, ◌∙◌, ℕ, ◌+◌, inl, inr, List, [], ◌∷◌, length, refl, sym, ap, subst, arith, Bool, slice_get, Some, Option, None}
+use Rattle.std.proofs.Common.{◌≡◌, ◌∙◌, ℕ, ◌+◌, inl, inr, List, [], ◌∷◌, length, refl, sym, ap, subst, arith, Bool, slice_get, Some, true}
 use Rattle.std.specs.Prelude.{if◌then◌else◌}
 use Rattle.zy_isa.specs.declared.node.Actor.{Actor}
 use Rattle.zy_isa.specs.declared.node.Actor.TheVariants.{C, A, B}

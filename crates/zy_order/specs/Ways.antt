@@ -140,4 +140,4 @@ pub record AreLogs (lines : List LogLine) (gaps : Gaps) (logs : Logs) : Type 0 w
   pub of_c : logs.c.items ≡ lines_of C lines
   pub of_a : logs.a.items ≡ lines_of A lines
   pub of_b : logs.b.items ≡ lines_of B lines
-  pub gaps : logs.gaps ≡ gaps
+  pub of_gaps : logs.gaps ≡ gaps

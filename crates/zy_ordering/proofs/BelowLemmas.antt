@@ -1,9 +1,7 @@
 -- The lines below a scenario, as they are read.
 use Rattle.std.proofs.Common.{◌≡◌, ◌∙◌, ◌∷◌, ℕ, List, [], Result, Ok, Err, None, refl, sym, ap, subst, arith, length, take, drop}
-use Rattle.std.proofs.lemmas.List.{length-map}
 use Rattle.std.specs.declared.vec.Vec.{Vec}
 use Rattle.std.specs.declared.alloc.Global.{Global}
-use Rattle.zy_isa.specs.declared.choice.Choice.{Choice}
 use Rattle.zy_isa.specs.Scenario.{Scenario, IsScenario, AreNamed}
 use Rattle.zy_text.specs.Cut.{cut}
 use Rattle.zy_text.proofs.CutLemmas.{cut_taken}
@@ -11,29 +9,26 @@ use Rattle.zy_logs.specs.declared.faults.LogFault.{LogFault}
 use Rattle.zy_logs.specs.declared.faults.LogFault.TheVariants.{Refused, Memory}
 use Rattle.zy_logs.specs.declared.logs.NumberedLine.{NumberedLine}
 use Rattle.zy_logs.specs.declared.txns.Txns.{Txns}
-use Rattle.zy_logs.specs.Logs.{logs_of, Reads}
-use Rattle.zy_logs.specs.Logs as numbered
+use Rattle.zy_logs.specs.Logs.{choices_of, logs_of, Reads}
 use Rattle.zy_logs.proofs.NamedLemmas.{logs_named, logs_few}
-use Rattle.zy_order.specs.Answers.{IsInput}
-use Rattle.zy_order.specs.Orders.{choices_of}
 use Rattle.zy_engine.specs.Searching.{history_of}
 use Rattle.zy_ordering.proofs.TakenLemmas.{ran_length}
-use Rattle.zy_ordering.specs.Ordering.{below, AreTxnsOf, Says, ReadsBelow, lines_in, line_below, room}
+use Rattle.zy_ordering.specs.Ordering.{below, AreTxnsOf, Says, ReadsBelow, CanFollow, line_below, room}
 
 -- what was read of a scenario's transactions is what the lines say
-reads_below : (text lines : List ℕ) (sc : Scenario) (txns : Txns) → AreTxnsOf sc text txns
-    → (r : Result (Vec NumberedLine Global) LogFault) → Reads r (logs_of txns (room sc) (line_below text) lines) → ReadsBelow text lines sc r
-reads_below text lines sc txns are (Ok v) is = record { txns = txns; are = are; logs = is }
-reads_below text lines sc txns are (Err (Refused r)) is = record { txns = txns; are = are; logs = is }
-reads_below text lines sc txns are (Err Memory) is = tt
+reads_below : (gap : ℕ) (text lines : List ℕ) (sc : Scenario) (txns : Txns) → AreTxnsOf sc text txns
+    → (r : Result (Vec NumberedLine Global) LogFault) → Reads r (logs_of txns gap (room sc) (line_below text) lines) → ReadsBelow gap text lines sc r
+reads_below gap text lines sc txns are (Ok v) is = record { txns = txns; are = are; logs = is }
+reads_below gap text lines sc txns are (Err (Refused r)) is = record { txns = txns; are = are; logs = is }
+reads_below gap text lines sc txns are (Err Memory) is = tt
 
 -- so is what was read with as much room, from a line of that number on
-pub read_of : (text lines : List ℕ) (sc : Scenario) (txns : Txns) → AreTxnsOf sc text txns → (most first : ℕ)
-    → (r : Result (Vec NumberedLine Global) LogFault) → most ≡ room sc → first ≡ line_below text → Reads r (logs_of txns most first lines)
-    → ReadsBelow text lines sc r
-read_of text lines sc txns are most first r enough number is =
-    reads_below text lines sc txns are r
-    (subst (λ m. Reads r (logs_of txns m (line_below text) lines)) enough (subst (λ n. Reads r (logs_of txns most n lines)) number is))
+pub read_of : (gap : ℕ) (text lines : List ℕ) (sc : Scenario) (txns : Txns) → AreTxnsOf sc text txns → (most first : ℕ)
+    → (r : Result (Vec NumberedLine Global) LogFault) → most ≡ room sc → first ≡ line_below text → Reads r (logs_of txns gap most first lines)
+    → ReadsBelow gap text lines sc r
+read_of gap text lines sc txns are most first r enough number is =
+    reads_below gap text lines sc txns are r
+    (subst (λ m. Reads r (logs_of txns gap m (line_below text) lines)) enough (subst (λ n. Reads r (logs_of txns gap most n lines)) number is))
 
 -- ---- the parts of an input
 
@@ -46,30 +41,23 @@ pub below_is : (input lines : List ℕ) (n : ℕ) → lines ≡ drop n input →
 below_is input lines n back cuts = back ∙ ap (λ k. drop k input) cuts
 
 -- so what was read of these is what the input says
-pub reads_cut : (input text lines : List ℕ) (sc : Scenario) (r : Result (Vec NumberedLine Global) LogFault) → text ≡ cut input
-    → lines ≡ below input → ReadsBelow text lines sc r → ReadsBelow (cut input) (below input) sc r
-reads_cut input text lines sc r front back is =
-    subst (λ t. ReadsBelow t (below input) sc r) front (subst (λ l. ReadsBelow text l sc r) back is)
+pub reads_cut : (gap : ℕ) (input text lines : List ℕ) (sc : Scenario) (r : Result (Vec NumberedLine Global) LogFault) → text ≡ cut input
+    → lines ≡ below input → ReadsBelow gap text lines sc r → ReadsBelow gap (cut input) (below input) sc r
+reads_cut gap input text lines sc r front back is =
+    subst (λ t. ReadsBelow gap t (below input) sc r) front (subst (λ l. ReadsBelow gap text l sc r) back is)
 
 -- ---- what the lines can be
 
--- lines have their choices without their numbers too
-same_choices : (lines : List NumberedLine) → choices_of (lines_in lines) ≡ numbered.choices_of lines
-same_choices [] = refl
-same_choices (line ∷ lines) = ap (λ (cs : List Choice). line.line.choice ∷ cs) (same_choices lines)
-
--- and they can be logs of steps that follow the scenario's own choices
-pub input_of : (text under : List ℕ) (sc : Scenario) (lines : List NumberedLine) → IsScenario sc → Says text under sc (Ok lines)
-    → IsInput (history_of None sc) (lines_in lines)
-input_of text under sc lines is says = record {
-  named = subst (λ n. AreNamed n (choices_of (lines_in lines))) says.are.count
-      (subst (λ cs. AreNamed says.txns.count cs) (sym (same_choices lines))
-      (logs_named says.txns (room sc) (line_below text) under lines says.logs));
+-- they can be logs of steps that follow the scenario's own choices
+pub can_follow : (gap : ℕ) (text under : List ℕ) (sc : Scenario) (lines : List NumberedLine) → IsScenario sc → Says gap text under sc (Ok lines)
+    → CanFollow (history_of None sc) gap lines
+can_follow gap text under sc lines is says = record {
+  named = subst (λ n. AreNamed n (choices_of lines)) says.are.count
+      (logs_named says.txns gap (room sc) (line_below text) under lines says.logs);
   room = omega (
     arith,
     ran_length sc,
     is.few_choices,
-    logs_few says.txns (room sc) (line_below text) under lines says.logs,
-    length-map lines (λ (l : NumberedLine). l.line),
+    logs_few says.txns gap (room sc) (line_below text) under lines says.logs,
   );
 }

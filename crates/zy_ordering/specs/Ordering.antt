@@ -1,6 +1,6 @@
 -- What the engine does: it reads a scenario and logs below it, and writes the scenario with an order of them.
 use Rattle.std.specs.Prelude.{◌≡◌, ◌==◌, ◌≤◌, ◌+◌, ◌-◌, ◌++◌, ◌⊎◌, ℕ, List, [], Option, None, Result, Ok, Err, IfOk, IfErr, IfSome}
-use Rattle.std.specs.Prelude.{count_by, drop, length, map}
+use Rattle.std.specs.Prelude.{count_by, drop, length}
 use Rattle.std.specs.declared.vec.Vec.{Vec}
 use Rattle.std.specs.declared.alloc.Global.{Global}
 use Rattle.std.specs.Io.KnownBytes.{Appends}
@@ -8,7 +8,8 @@ use Rattle.zy_io.specs.Streams.{ReadWhole, WrotePrefix, most_read}
 use Rattle.zy_io.specs.declared.writing.TextFault.{TextFault}
 use Rattle.zy_io.specs.declared.writing.TextFault.TheVariants.{Write, Memory}
 use Rattle.zy_isa.specs.Limits.{max_choices}
-use Rattle.zy_isa.specs.Scenario.{Scenario}
+use Rattle.zy_isa.specs.Scenario.{Scenario, AreNamed}
+use Rattle.zy_machine.specs.Histories.{History}
 use Rattle.zy_text.specs.Cut.{cut}
 use Rattle.zy_text.specs.Lines.{texts}
 use Rattle.zy_text.specs.Text.{Means}
@@ -16,22 +17,24 @@ use Rattle.zy_threads.specs.Orders.{reordered}
 use Rattle.zy_logs.specs.declared.faults.LogFault.{LogFault}
 use Rattle.zy_logs.specs.declared.faults.LogFault.TheVariants as reading
 use Rattle.zy_logs.specs.declared.faults.LogLineFault.{LogLineFault}
-use Rattle.zy_logs.specs.declared.log_line.LogLine.{LogLine}
 use Rattle.zy_logs.specs.declared.logs.NumberedLine.{NumberedLine}
 use Rattle.zy_logs.specs.declared.txns.Txns.{Txns}
-use Rattle.zy_logs.specs.Logs.{logs_of}
+use Rattle.zy_logs.specs.Logs.{logs_of, steps, steps_in, choices_of}
 use Rattle.zy_order.specs.declared.answer.OrderAnswer.{OrderAnswer}
 use Rattle.zy_order.specs.declared.answer.OrderAnswer.TheVariants as answer
 use Rattle.zy_order.specs.declared.answer.OrderReport.{OrderReport}
+use Rattle.zy_order.specs.declared.gaps.Gaps.{Gaps}
 use Rattle.zy_order.specs.Answers.{IsAnswer}
 use Rattle.zy_engine.specs.declared.wording.Wording.{Wording}
 use Rattle.zy_engine.specs.Engines.{Streams}
 use Rattle.zy_engine.specs.Faults.{IfRefused}
 use Rattle.zy_engine.specs.Inputs.{IsTextFault}
 use Rattle.zy_engine.specs.Searching.{history_of, IsWorded}
+use Rattle.zy_ordering.specs.declared.options.OrderOptions.{OrderOptions}
 use Rattle.zy_ordering.specs.declared.faults.OrderFault.{OrderFault}
 use Rattle.zy_ordering.specs.declared.faults.OrderFault.TheVariants.{Bench, Log}
 use Rattle.zy_ordering.specs.Faults.{ReadsInput, failed_reads, failed_writes, IsQuiet}
+use Rattle.zy_ordering.specs.Missing.{AreGapsIn}
 use Rattle.zy_ordering.specs.Names.{names_of}
 
 -- ---- the input
@@ -53,21 +56,22 @@ pub record AreTxnsOf (sc : Scenario) (text : List ℕ) (txns : Txns) : Type 0 wh
   pub count : txns.count ≡ length sc.programs
   pub names : texts txns.names.now ≡ names_of text
 
--- what the lines below a scenario's text say, as lines of logs
-pub record Says (text lines : List ℕ) (sc : Scenario) (said : Result (List NumberedLine) LogLineFault) : Type 0 where
+-- what the lines below a scenario's text say, as lines of logs, where a gap stands for at most `gap` steps
+pub record Says (gap : ℕ) (text lines : List ℕ) (sc : Scenario) (said : Result (List NumberedLine) LogLineFault) : Type 0 where
   pub txns : Txns
   pub are : AreTxnsOf sc text txns
-  pub logs : logs_of txns (room sc) (line_below text) lines ≡ said
+  pub logs : logs_of txns gap (room sc) (line_below text) lines ≡ said
 
 -- the answer is what the lines say, unless there was no memory
-abbrev pub ReadsBelow : List ℕ → List ℕ → Scenario → Result (Vec NumberedLine Global) LogFault → Type 0
-ReadsBelow text lines sc (Ok v) = Says text lines sc (Ok v.items)
-ReadsBelow text lines sc (Err (reading.Refused r)) = Says text lines sc (Err r)
-ReadsBelow text lines sc (Err reading.Memory) = Unit {0}
+abbrev pub ReadsBelow : ℕ → List ℕ → List ℕ → Scenario → Result (Vec NumberedLine Global) LogFault → Type 0
+ReadsBelow gap text lines sc (Ok v) = Says gap text lines sc (Ok v.items)
+ReadsBelow gap text lines sc (Err (reading.Refused r)) = Says gap text lines sc (Err r)
+ReadsBelow gap text lines sc (Err reading.Memory) = Unit {0}
 
--- lines without their numbers
-abbrev pub lines_in : List NumberedLine → List LogLine
-lines_in lines = map (λ (l : NumberedLine). l.line) lines
+-- lines can be logs of steps that follow a machine's: each names a transaction, and the history has room for all steps
+pub record CanFollow (h : History) (gap : ℕ) (lines : List NumberedLine) : Type 0 where
+  pub named : AreNamed (length h.scenario.programs) (choices_of lines)
+  pub room : length h.entries + steps_in gap lines ≤ max_choices
 
 -- ---- the answer
 
@@ -78,21 +82,24 @@ IsTextOf w sc (answer.Nowhere v) text = text ≡ []
 IsTextOf w sc (answer.Spent v) text = text ≡ []
 
 -- an answer for lines that follow a scenario's own choices, and a text of it
-abbrev pub IsAnswerOf : Wording → Scenario → List LogLine → OrderAnswer → List ℕ → Type 0
-IsAnswerOf w sc lines a text = IsAnswer (history_of None sc) lines a × IsTextOf w sc a text
+pub record IsAnswerOf (o : OrderOptions) (sc : Scenario) (lines : List NumberedLine) (a : OrderAnswer) (text : List ℕ) : Type 0 where
+  pub gaps : Gaps
+  pub are : AreGapsIn o.gap lines gaps
+  pub answer : IsAnswer (history_of None sc) (steps lines) gaps a
+  pub is : IsTextOf o.wording sc a text
 
 -- an answer for the scenario and the logs that an input means, and a text of it
-pub record IsAnswerTo (w : Wording) (input : List ℕ) (a : OrderAnswer) (text : List ℕ) : Type 0 where
+pub record IsAnswerTo (o : OrderOptions) (input : List ℕ) (a : OrderAnswer) (text : List ℕ) : Type 0 where
   pub scenario : Scenario
   pub means : Means (cut input) scenario
   pub lines : List NumberedLine
-  pub says : Says (cut input) (below input) scenario (Ok lines)
-  pub is : IsAnswerOf w scenario (lines_in lines) a text
+  pub says : Says o.gap (cut input) (below input) scenario (Ok lines)
+  pub is : IsAnswerOf o scenario lines a text
 
 -- the fault is the first one of an input; or it is none of an input
-abbrev pub IsFaultOf : List ℕ → OrderFault → Type 0
-IsFaultOf input (Bench f) = IfRefused f (IsTextFault (cut input) f)
-IsFaultOf input (Log r) = (sc : Scenario) × Means (cut input) sc × Says (cut input) (below input) sc (Err r)
+abbrev pub IsFaultOf : OrderOptions → List ℕ → OrderFault → Type 0
+IsFaultOf o input (Bench f) = IfRefused f (IsTextFault (cut input) f)
+IsFaultOf o input (Log r) = (sc : Scenario) × Means (cut input) sc × Says o.gap (cut input) (below input) sc (Err r)
 
 -- ---- what goes out
 
@@ -112,14 +119,14 @@ WroteOrder Is old new before after (Err Write) = WrotePart Is old new × (after 
 WroteOrder Is old new before after (Err Memory) = WrotePart Is old new × (after ≡ before)
 
 -- a call that answers of an input
-pub record Answers (w : Wording) (input : List ℕ) (old new : Option (List ℕ)) (before after : ℕ)
+pub record Answers (o : OrderOptions) (input : List ℕ) (old new : Option (List ℕ)) (before after : ℕ)
     (result : Result OrderReport OrderFault) : Type 0 where
   -- at Ok exactly a text of the answer went out
-  pub answered : IfOk result (λ r. WroteText (IsAnswerTo w input) old new r.answer)
+  pub answered : IfOk result (λ r. WroteText (IsAnswerTo o input) old new r.answer)
   -- whatever comes, nothing but a prefix of a text of an answer did
-  pub part : WrotePart (IsAnswerTo w input) old new
+  pub part : WrotePart (IsAnswerTo o input) old new
   -- a refused input is reported by its first fault
-  pub fault : IfErr result (IsFaultOf input)
+  pub fault : IfErr result (IsFaultOf o input)
   -- before the input is read and accepted nothing is written
   pub quiet : IfErr result (λ f. IsQuiet f → new ≡ old)
   -- each fault of the writer is one failed call, and there is none of the reader
@@ -128,14 +135,14 @@ pub record Answers (w : Wording) (input : List ℕ) (old new : Option (List ℕ)
   pub whole : (x y : Option (List ℕ)) → ReadWhole x y → ReadsInput x y result
 
 -- the engine, which reads the input too
-pub record ConvertsOrder (w : Wording) (old new : Streams) (result : Result OrderReport OrderFault) : Type 0 where
+pub record ConvertsOrder (o : OrderOptions) (old new : Streams) (result : Result OrderReport OrderFault) : Type 0 where
   -- at Ok the answer is one for what the input means, and exactly a text of it went out
   pub answered : IfOk result (λ r. IfSome old.left (λ input.
-      WroteText (IsAnswerTo w input) old.written new.written r.answer))
+      WroteText (IsAnswerTo o input) old.written new.written r.answer))
   -- whatever comes, nothing but a prefix of a text of an answer went out
-  pub part : IfSome old.left (λ input. WrotePart (IsAnswerTo w input) old.written new.written)
+  pub part : IfSome old.left (λ input. WrotePart (IsAnswerTo o input) old.written new.written)
   -- a refused input is reported by its first fault
-  pub fault : IfErr result (λ f. IfSome old.left (λ input. IsFaultOf input f))
+  pub fault : IfErr result (λ f. IfSome old.left (λ input. IsFaultOf o input f))
   -- the input is read whole; only where it has more than max_input bytes is it too long, and then one byte more is read
   pub input : ReadsInput old.left new.left result
   -- before the input is read and accepted nothing is written

@@ -5,8 +5,10 @@ pub mod behind;
 pub mod faults;
 pub mod laws;
 pub mod logs_below;
+mod missing;
 pub mod names;
+pub mod options;
 pub mod ordering;
 
 pub use crate::faults::OrderFault;
-pub use crate::ordering::OrderOptions;
+pub use crate::options::OrderOptions;

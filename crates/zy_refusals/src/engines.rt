@@ -31,6 +31,7 @@ enum Engine {
 /// What an order is looked for by.
 const OPTIONS: OrderOptions = OrderOptions {
     wording: Wording::Own,
+    gap: 2,
     most: 100,
 };
 

@@ -12,7 +12,7 @@ returns-in_err-bytes g c =
     let source = c.read_all.new.source in
     let p = err_from_is_err_and c.from_residual.result c.from_residual.ensures.1 in
     rw p.1 (rw p.2 (
-    unread c.args.options.wording (at c.args.source.now c.args.sink.now) (g.S.Source.left source) (g.S.Source.failures source) (g.S.Source.given source)
+    unread c.args.options (at c.args.source.now c.args.sink.now) (g.S.Source.left source) (g.S.Source.failures source) (g.S.Source.given source)
     c.in_err-bytes.field-0.0 c.read_all.ensures.bound c.in_err-bytes.ensures.reads
     ))
 
@@ -23,5 +23,5 @@ returns g c =
     let bytes = c.as_slice.result.now in
     let whole : ReadWhole (g.S.Source.left c.args.source.now) (g.S.Source.left source) = search rules in
     let same : IfSome (g.S.Source.left c.args.source.now) (λ t. bytes ≡ t) = rw c.as_slice.ensures.value c.in_ok-bytes.ensures.whole in
-    converts c.args.options.wording (at c.args.source.now c.args.sink.now) (at source c.answer.new.sink) bytes same whole
+    converts c.args.options (at c.args.source.now c.args.sink.now) (at source c.answer.new.sink) bytes same whole
     c.in_ok-bytes.ensures.reads.3 c.read_all.ensures.bound c.answer.result c.answer.ensures
