@@ -21,7 +21,7 @@ _zy_bench() {
     options='start begin kill run take finish push'
   fi
   mapfile -t COMPREPLY < <(compgen -W "$options" -- "$word")
-  if [[ ${COMP_WORDS[1]} != help && $word != -* && ! $before =~ ^--(for|always|from|without|every|ring|states|threads)$ ]]; then
+  if [[ ${COMP_WORDS[1]} != help && $word != -* && ! $before =~ ^--(for|always|from|without|every|ring|states|threads|gap)$ ]]; then
     mapfile -t -O "${#COMPREPLY[@]}" COMPREPLY < <(compgen -f -- "$word")
   fi
 }
