@@ -122,12 +122,13 @@ def places_by_lines(scenario, logs, place):
 
 
 def places_by_missing(scenario, rooms, place):
-    """The places one missing step further."""
+    """The places one missing step further, but for those of a step that changes nothing: what comes behind it comes without it."""
     made, missing, state = place
     for choice in considered(scenario, True):
         x = ACTORS.index(choice[0])
-        if missing[x] < rooms[x][made[x]]:
-            yield Place(made, put(missing, x, missing[x] + 1), step(scenario, state, choice)[1])
+        after = step(scenario, state, choice)[1] if missing[x] < rooms[x][made[x]] else state
+        if after != state:
+            yield Place(made, put(missing, x, missing[x] + 1), after)
 
 
 def rank(made):

@@ -94,31 +94,40 @@ line_of_step : (count : ℕ) (l : Logs) (g next to : Cursors) (e : Entry) → Ha
 line_of_step count l g next to e many w leads =
     let y = actor_of e.choice in
     elim leads [
-      | inl by ↦ (by.0.line, record {
-        choice = by.0.choice;
-        agrees = by.0.agrees;
-        before = λ x lines a.
-            with_line count x y l g to by.0.line lines many w by.0.next (subst (λ (f : Cursors). IsAhead count l f to x lines) by.1 a);
-      })
-      | inr by ↦ (unlogged e.choice, record {
-        choice = refl;
-        agrees = (tt, tt);
-        before = λ x lines a.
-            with_step count x y l g to (unlogged e.choice) lines (record { is = refl; actor = refl; named = by.0.named })
-            (subst (λ (f : Cursors). IsAhead count l f to x lines) by.1 a);
-      })
+      | inl by ↦ (
+        by.0.line,
+        record {
+          choice = by.0.choice;
+          agrees = by.0.agrees;
+          before = λ x lines a.
+              with_line count x y l g to by.0.line lines many w by.0.next (subst (λ (f : Cursors). IsAhead count l f to x lines) by.1 a);
+        },
+      )
+      | inr by ↦ (
+        unlogged e.choice,
+        record {
+          choice = refl;
+          agrees = (tt, tt);
+          before = λ x lines a.
+              with_step count x y l g to (unlogged e.choice) lines (record { is = refl; actor = refl; named = by.0.named })
+              (subst (λ (f : Cursors). IsAhead count l f to x lines) by.1 a);
+        },
+      )
     ]
 
 -- the choices of a way are those of an order of the lines between its ends
 pub order_of : (sc : Scenario) (l : Logs) (g to : Cursors) (s : State) (cs : List Choice) → HaveGaps l → IsWithin l g → IsWay sc l g s cs to
     → (order : List LogLine) × IsOrderOf sc l g to s cs order
-order_of sc l g to s [] many w way = ([], record {
-  ahead = λ x.
-      subst (λ (f : Cursors). IsAhead (length sc.programs) l g f x []) way
-      (ahead_none (length sc.programs) x (log_of x l) (gaps_of x l.gaps) (cursor_of x g) (many x) (is_in x l g w));
-  fits = tt;
-  choices = refl;
-})
+order_of sc l g to s [] many w way = (
+  [],
+  record {
+    ahead = λ x.
+        subst (λ (f : Cursors). IsAhead (length sc.programs) l g f x []) way
+        (ahead_none (length sc.programs) x (log_of x l) (gaps_of x l.gaps) (cursor_of x g) (many x) (is_in x l g w));
+    fits = tt;
+    choices = refl;
+  },
+)
 order_of sc l g to s (c ∷ cs) many w way =
     let count = length sc.programs in
     let next = way.0 in

@@ -15,8 +15,9 @@ use Rattle.zy_search.proofs.ShelfLemmas.{shelf_grown}
 use Rattle.zy_order.specs.declared.cursors.Cursors.{Cursors}
 use Rattle.zy_order.specs.declared.plan.Plan.{Plan}
 use Rattle.zy_order.specs.declared.reached.Reached.{Reached}
-use Rattle.zy_order.specs.Ways.{at_start, cursors_in}
+use Rattle.zy_order.specs.Ways.{at_start, cursors_in, NeedNoMore}
 use Rattle.zy_order.specs.Reaches.{cursors_at, state_by, Extends, IsKnown, IsReached, IsWayOf, Adds, GoesOn}
+use Rattle.zy_order.proofs.NeedLemmas.{need_self}
 use Rattle.zy_order.proofs.WayLemmas.{way_push}
 use Rattle.zy_order.proofs.ReachLemmas.{extends_on}
 
@@ -102,7 +103,7 @@ module _ (p : Plan) (r new : Reached) (b : Branch) (to : Cursors) (m : History) 
   known_new = (
     length r.visited,
     omega (arith, longer),
-    new_cursors (length r.visited) refl,
+    subst (λ (g : Cursors). NeedNoMore g to) (sym (new_cursors (length r.visited) refl)) (need_self to),
     ap (reached p.start) (new_path (length r.visited) refl) ∙ reached_new,
   )
 

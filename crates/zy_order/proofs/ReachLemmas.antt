@@ -15,8 +15,9 @@ use Rattle.zy_order.specs.declared.cursors.Cursors.{Cursors}
 use Rattle.zy_order.specs.declared.plan.Plan.{Plan}
 use Rattle.zy_order.specs.declared.reached.Reached.{Reached}
 use Rattle.zy_order.specs.Orders.{entry_at}
-use Rattle.zy_order.specs.Ways.{log_of, cursor, cursor_of, gap_at, at_start, cursors_in, advanced, with_missing, of_nodes, IsNoFurther, AreMatched, HasNext, HasGap, Leads, IsWay}
+use Rattle.zy_order.specs.Ways.{log_of, cursor, cursor_of, gap_at, at_start, cursors_in, advanced, with_missing, of_nodes, IsNoFurther, NeedNoMore, AreMatched, HasNext, HasGap, Leads, IsWay}
 use Rattle.zy_order.specs.Reaches.{cursors_at, entry_by, state_by, Extends, IsKnown, IsReached, IsMet, IsTried, IsFollowed, IsFurthestPath, IsWayOf, IsFurthestWay, IsPlan}
+use Rattle.zy_order.proofs.NeedLemmas.{need_self, need_on, leads_less, matched_less, no_further_less}
 use Rattle.zy_order.proofs.WayLemmas.{log_few}
 
 -- ---- closed under steps that lead on
@@ -30,22 +31,30 @@ followed_leads h l r i c next is leads =
       | inr by ↦ subst (λ (g : Cursors). IsKnown h r g (state_by h r i c)) (sym by.1) (is.tried c by.0.named by.0.gap)
     ]
 
--- where each path was followed, a way from where one leads goes to where one leads
+-- where a path leads to a state is known with other cursors that need more
+known_more : (h : History) (r : Reached) (f g : Cursors) (s : State) → NeedNoMore f g → IsKnown h r f s → IsKnown h r g s
+known_more h r f g s n known = (known.0, known.1, need_on (cursors_at r known.0) f g known.2 n, known.3)
+
+-- where each path was followed, a step that leads on from where one leads goes to where one leads
+step_known : (h : History) (l : Logs) (r : Reached) → ((i : ℕ) → i < length r.visited → IsFollowed h l r i) → (c : Choice) (g next : Cursors) (s : State)
+    → IsKnown h r g s → Leads (length h.scenario.programs) l g (entry_at h.scenario s c) next
+    → IsKnown h r next (step h.scenario c s).after
+step_known h l r all c g next s known leads =
+    let sc = h.scenario in
+    let count = length sc.programs in
+    let i = known.0 in
+    let here : Leads count l g (entry_by h r i c) next = subst (λ (x : State). Leads count l g (entry_at sc x c) next) (sym known.3) leads in
+    let less = leads_less count l (cursors_at r i) g (entry_by h r i c) next known.2 here in
+    let after = known_more h r less.to next (state_by h r i c) less.need (followed_leads h l r i c less.to (all i known.1) less.leads) in
+    subst (λ (x : State). IsKnown h r next (step sc c x).after) known.3 after
+
+-- so does a way
 stays_known : (h : History) (l : Logs) (r : Reached) → ((i : ℕ) → i < length r.visited → IsFollowed h l r i) → (cs : List Choice) (g to : Cursors)
     (s : State) → IsKnown h r g s → IsWay h.scenario l g s cs to
     → IsKnown h r to (play h.scenario s cs)
 stays_known h l r all [] g to s known way = subst (λ (f : Cursors). IsKnown h r f s) way known
 stays_known h l r all (c ∷ cs) g to s known way =
-    let sc = h.scenario in
-    let count = length sc.programs in
-    let i = known.0 in
-    let leads : Leads count l (cursors_at r i) (entry_by h r i c) way.0 =
-    subst (λ (x : State). Leads count l (cursors_at r i) (entry_at sc x c) way.0) (sym known.3)
-    (subst (λ (f : Cursors). Leads count l f (entry_at sc s c) way.0) (sym known.2) way.1) in
-    let after = followed_leads h l r i c way.0 (all i known.1) leads in
-    let there : IsKnown h r way.0 (step sc c s).after =
-    (after.0, after.1, after.2, after.3 ∙ ap (λ (x : State). (step sc c x).after) known.3) in
-    stays_known h l r all cs way.0 to (step sc c s).after there way.2
+    stays_known h l r all cs way.0 to (step h.scenario c s).after (step_known h l r all c g way.0 s known way.1) way.2
 
 -- where no kept cursors are further than those of a path, no other path leads further
 path_furthest : (p : Plan) (r : Reached) (best : ℕ) → IsReached p r → IsFurthestPath r best → (i : ℕ) → i < length r.visited
@@ -57,7 +66,8 @@ way_known : (p : Plan) (r : Reached) → IsReached p r → ((i : ℕ) → i < le
     → (ds : List Choice) (end : Cursors) → IsWayOf p ds end
     → IsKnown p.start r end (play p.start.scenario p.start.state ds)
 way_known p r is all ds end along =
-    let first : IsKnown p.start r at_start p.start.state = (0, is.some, is.start, ap (reached p.start) is.first) in
+    let start : NeedNoMore (cursors_at r 0) at_start = subst (NeedNoMore (cursors_at r 0)) is.start (need_self (cursors_at r 0)) in
+    let first : IsKnown p.start r at_start p.start.state = (0, is.some, start, ap (reached p.start) is.first) in
     stays_known p.start p.logs r all ds at_start end p.start.state first along
 
 -- so no way matches all lines, and none leads further than the path that leads furthest
@@ -68,10 +78,10 @@ furthest_way p r best is lt furthest all = record {
   way = is.ways best (omega (arith, lt, is.many));
   none = λ ds end along whole.
       let known = way_known p r is all ds end along in
-      (all known.0 known.1).part (subst (AreMatched p.logs) (sym known.2) whole);
+      (all known.0 known.1).part (matched_less p.logs (cursors_at r known.0) end known.2 whole);
   most = λ ds end along.
       let known = way_known p r is all ds end along in
-      subst (λ (f : Cursors). IsNoFurther f (cursors_at r best)) known.2 (path_furthest p r best is furthest known.0 known.1);
+      no_further_less (cursors_at r known.0) end (cursors_at r best) known.2 (path_furthest p r best is furthest known.0 known.1);
 }
 
 -- ---- paths are added
@@ -95,7 +105,7 @@ known_on : (h : History) (r new : Reached) (g : Cursors) (s : State) → Extends
 known_on h r new g s x known = (
   known.0,
   omega (arith, known.1, x.paths.longer),
-  x.cursors known.0 known.1 ∙ known.2,
+  subst (λ (f : Cursors). NeedNoMore f g) (sym (x.cursors known.0 known.1)) known.2,
   ap (reached h) (x.paths.same known.0 known.1) ∙ known.3,
 )
 

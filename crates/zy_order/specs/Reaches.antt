@@ -27,7 +27,7 @@ use Rattle.zy_order.specs.declared.follow.Followed.TheVariants as followed
 use Rattle.zy_order.specs.Orders.{entry_at}
 use Rattle.zy_order.specs.Gaps.{gaps_of}
 use Rattle.zy_order.specs.Ways.{log_of, at_start, cursors_in, advanced, with_missing, step_count}
-use Rattle.zy_order.specs.Ways.{IsNoFurther, AreMatched, HasNext, HasGap, Leads, IsWay, AreLinesOf}
+use Rattle.zy_order.specs.Ways.{IsNoFurther, NeedNoMore, AreMatched, HasNext, HasGap, Leads, IsWay, AreLinesOf}
 
 -- ---- what a search goes by
 
@@ -59,10 +59,10 @@ pub record IsFurthestWay (p : Plan) (cs : List Choice) (to : Cursors) : Type 0 w
 abbrev pub cursors_at : Reached → ℕ → Cursors
 cursors_at r i = cursors_in r.cursors.items i
 
--- a path leads to this state, with these cursors
+-- a path leads to this state, with cursors that have these lines matched and need no more missing steps
 abbrev pub IsKnown : History → Reached → Cursors → State → Type 0
 IsKnown h r cursors s =
-    (i : ℕ) × (i < length r.visited) × (cursors_at r i ≡ cursors) × (reached h (path_at r.visited i) ≡ s)
+    (i : ℕ) × (i < length r.visited) × NeedNoMore (cursors_at r i) cursors × (reached h (path_at r.visited i) ≡ s)
 
 -- all numbers of a list are below n
 abbrev pub AreBelow : List ℕ → ℕ → Type 0

@@ -78,6 +78,17 @@ pub record IsNoFurther (cursors others : Cursors) : Type 0 where
   pub nodes : of_nodes cursors ≤ of_nodes others
   pub client : of_nodes cursors ≡ of_nodes others → others.c.lines ≤ cursors.c.lines
 
+-- a cursor has the same lines matched as another, and needs no more missing steps behind them
+pub record NeedsNoMore (cursor other : Cursor) : Type 0 where
+  pub lines : cursor.lines ≡ other.lines
+  pub missing : cursor.missing ≤ other.missing
+
+-- the same of each actor
+pub record NeedNoMore (cursors others : Cursors) : Type 0 where
+  pub of_c : NeedsNoMore cursors.c others.c
+  pub of_a : NeedsNoMore cursors.a others.a
+  pub of_b : NeedsNoMore cursors.b others.b
+
 -- how many lines the logs have
 abbrev pub line_count : Logs → ℕ
 line_count logs = length logs.c.items + (length logs.a.items + length logs.b.items)

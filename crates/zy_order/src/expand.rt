@@ -50,7 +50,15 @@ fn meet(
         from: at,
         by: line.choice,
     };
-    note(plan, reached, shelf, branch, cursors.advanced(actor), here, twin)
+    note(
+        plan,
+        reached,
+        shelf,
+        branch,
+        cursors.advanced(actor),
+        here,
+        twin,
+    )
 }
 
 /// The same of each actor's next line.

@@ -10,12 +10,13 @@ use crate::note::note;
 use crate::plan::Plan;
 use crate::reached::Reached;
 use zy_isa::Choice;
-use zy_machine::{Fault, Machine};
+use zy_machine::{Fault, Machine, StatePart};
 use zy_search::branch::Branch;
 use zy_search::shelf::Shelf;
 
 /// Makes a choice from the state of a machine where the path at a place leads, as that of a step that its actor's log lacks,
-/// if one may be missing there, and keeps where it leads. It answers no where there is no room for that.
+/// if one may be missing there, and keeps where it leads. A step that changes nothing leads nowhere else: whatever comes
+/// behind it comes without it. It answers no where there is no room for what is kept.
 fn try_one(
     plan: &Plan,
     reached: &mut Reached,
@@ -42,11 +43,22 @@ fn try_one(
         return Ok(true);
     }
     attempt(plan.alloc, here, twin, choice)?;
+    if twin.is_alike(StatePart::Whole, here) {
+        return Ok(true);
+    }
     let branch = Branch {
         from: at,
         by: choice,
     };
-    note(plan, reached, shelf, branch, cursors.with_missing(actor), here, twin)
+    note(
+        plan,
+        reached,
+        shelf,
+        branch,
+        cursors.with_missing(actor),
+        here,
+        twin,
+    )
 }
 
 /// The same of each choice.

@@ -18,7 +18,9 @@ const MOST_PER_DIGEST: u64 = 8;
 
 /// A number that differs for most states and cursors. Nothing is promised of it: a bad one costs time alone.
 pub(crate) fn digest_of(cursors: Cursors, machine: &Machine) -> u64 {
-    let place = cursors.c.code().rotate_left(40) ^ cursors.a.code().rotate_left(20) ^ cursors.b.code();
+    let place = cursors.c.code().rotate_left(40)
+        ^ cursors.a.code().rotate_left(20)
+        ^ cursors.b.code();
     (digest(StatePart::Whole, machine).rotate_left(5) ^ place).wrapping_mul(0x517c_c1b7_2722_0a95)
 }
 

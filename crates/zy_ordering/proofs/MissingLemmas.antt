@@ -64,7 +64,7 @@ in_all lines c a b = lines + (sum c + (sum a + sum b))
 -- a line of an actor ends its gap
 all_line : (y : Actor) (lines total n m k : ℕ) (c a b : ℕ → List ℕ) → ((i j l : ℕ) → in_all lines (c i) (a j) (b l) ≡ i + (j + l) + total)
     → in_all (suc lines) (if is_c y then n ∷ c 0 else c n) (if is_a y then m ∷ a 0 else a m) (if is_b y then k ∷ b 0 else b k)
-        ≡ n + (m + k) + (1 + total)
+    ≡ n + (m + k) + (1 + total)
 all_line C lines total n m k c a b same = omega (arith, same 0 m k, sum_by-cons (λ x. x) n (c 0))
 all_line A lines total n m k c a b same = omega (arith, same n 0 k, sum_by-cons (λ x. x) m (a 0))
 all_line B lines total n m k c a b same = omega (arith, same n m 0, sum_by-cons (λ x. x) k (b 0))
@@ -72,7 +72,7 @@ all_line B lines total n m k c a b same = omega (arith, same n m 0, sum_by-cons 
 -- a gap of an actor adds to its own
 all_gap : (y : Actor) (lines total gap n m k : ℕ) (c a b : ℕ → List ℕ) → ((i j l : ℕ) → in_all lines (c i) (a j) (b l) ≡ i + (j + l) + total)
     → in_all lines (if is_c y then c (n + gap) else c n) (if is_a y then a (m + gap) else a m) (if is_b y then b (k + gap) else b k)
-        ≡ n + (m + k) + (gap + total)
+    ≡ n + (m + k) + (gap + total)
 all_gap C lines total gap n m k c a b same = omega (arith, same (n + gap) m k)
 all_gap A lines total gap n m k c a b same = omega (arith, same n (m + gap) k)
 all_gap B lines total gap n m k c a b same = omega (arith, same n m (k + gap))
@@ -81,14 +81,14 @@ all_gap B lines total gap n m k c a b same = omega (arith, same n m (k + gap))
 all_behind : (gap n m k : ℕ) (logged : Logged) (lines : List LogLine) (total : ℕ) (c a b : ℕ → List ℕ)
     → ((i j l : ℕ) → in_all (length lines) (c i) (a j) (b l) ≡ i + (j + l) + total)
     → in_all (length (step_of logged ++ lines)) (and_then gap C n logged c) (and_then gap A m logged a) (and_then gap B k logged b)
-        ≡ n + (m + k) + (steps_of gap logged + total)
+    ≡ n + (m + k) + (steps_of gap logged + total)
 all_behind gap n m k (Step line) lines total c a b same = all_line (actor_of line.choice) (length lines) total n m k c a b same
 all_behind gap n m k (Gap y) lines total c a b same = all_gap y (length lines) total gap n m k c a b same
 
 -- so the gaps of lines, and the lines of steps, have room for as many steps as the lines count for
 all_steps : (gap n m k : ℕ) (lines : List NumberedLine)
     → in_all (length (steps lines)) (gaps_from gap C n lines) (gaps_from gap A m lines) (gaps_from gap B k lines)
-        ≡ n + (m + k) + steps_in gap lines
+    ≡ n + (m + k) + steps_in gap lines
 all_steps gap n m k [] =
     omega (arith, sum_by-cons (λ x. x) n [], sum_by-cons (λ x. x) m [], sum_by-cons (λ x. x) k [])
 all_steps gap n m k (l ∷ lines) =

@@ -1,2 +1,4 @@
--- The choice may be that of a missing step, and where it leads is known; or it may not.
+-- The choice changes nothing, or where it leads is known; or it may not be that of a missing step.
+use Rattle.zy_order.specs.Reaches.{cursors_at}
+use Rattle.zy_order.proofs.NeedLemmas.{need_missing}
 use Rattle.zy_order.proofs.missing.try_one.Goals as goal

@@ -8,5 +8,8 @@ report_of-requires c = omega (arith, c.requires.there, c.requires.under_way.reac
 
 pub returns : goal.returns
 returns c =
-    rw (c.report_of.ensures, c.in_ok-path.ensures) (cursors_at c.args.reached.now c.args.at, c.requires.under_way.reached.ways c.args.at c.requires.there,
-    c.requires.whole)
+    rw (c.report_of.ensures, c.in_ok-path.ensures) (
+      cursors_at c.args.reached.now c.args.at,
+      c.requires.under_way.reached.ways c.args.at c.requires.there,
+      c.requires.whole,
+    )

@@ -75,8 +75,11 @@ returns g c =
     let is = subst (λ (h : History). IsAnswer h (steps numbered) gaps a) c.in_ok-machine.ensures.run
     (subst (λ (ls : List LogLine). IsAnswer c.in_ok-machine.machine ls gaps a) lines c.in_ok-report.ensures) in
     let wrote = subst (λ (h : History). WroteSome (IsTextOf w h.scenario a) old new before after (Ok c.in_ok-write_answer.field-0)) c.in_ok-machine.ensures.run
-    c.in_ok-write_answer.ensures in ((
-      wrote.text,
-      record { gaps = gaps; are = c.in_ok-gaps.ensures; answer = is; is = wrote.is },
-      wrote.wrote.0,
-    ), wrote.wrote.1)
+    c.in_ok-write_answer.ensures in (
+      (
+        wrote.text,
+        record { gaps = gaps; are = c.in_ok-gaps.ensures; answer = is; is = wrote.is },
+        wrote.wrote.0,
+      ),
+      wrote.wrote.1,
+    )
