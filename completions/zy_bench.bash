@@ -12,7 +12,7 @@ _zy_bench() {
     debug) options='--every --ring --help' ;;
     search) options='--image --for --always --from --kill --without --states --threads --canon --help' ;;
     find) options='--image --for --always --help' ;;
-    order) options='--json --states --canon --furthest --help' ;;
+    order) options='--json --gap --states --canon --furthest --help' ;;
     help) options='run asm dis check threads trace debug search find order' ;;
     *) options='--help' ;;
   esac
@@ -22,7 +22,7 @@ _zy_bench() {
     options='start begin kill run take finish push'
   fi
   mapfile -t COMPREPLY < <(compgen -W "$options" -- "$word")
-  if [[ ${COMP_WORDS[1]} != help && $word != -* && ! $before =~ ^--(for|always|from|without|every|ring|states|threads)$ ]]; then
+  if [[ ${COMP_WORDS[1]} != help && $word != -* && ! $before =~ ^--(for|always|from|without|every|ring|states|threads|gap)$ ]]; then
     mapfile -t -O "${#COMPREPLY[@]}" COMPREPLY < <(compgen -f -- "$word")
   fi
 }

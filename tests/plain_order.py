@@ -1,14 +1,17 @@
 """A plain model of `zy_bench order` (docs/order.md), over the plain table. It goes along the logs step by step; orders of the same lines that lead to the
-same state go on as one. `tried_merges` answers the same without that: it runs every merge of the logs.
+same state go on as one. `tried_merges` answers the same without that: it runs every merge of every completion of the logs.
 
-Logs are the lines of the client, of A and of B. A place is how many lines of each are made, and the state there."""
+Logs are the lines of the client, of A and of B, some of which are gaps. A place is how many lines of each are made, how many steps that its log lacks
+were made since the last of them, and the state there."""
 
 import os
 import re
 from collections import namedtuple
+from itertools import product
 from math import comb
 
 from case import TOP, content
+from plain_search import considered
 from plain_table import step
 
 # What a line tells: a choice, the words of its outcome, of which the last ones or all may be left out, and the kind of the message, or None.
@@ -17,7 +20,14 @@ Line = namedtuple('Line', 'choice told sent')
 # What comes of it: whether there is an order, the places that are reached, and those that are furthest.
 Answer = namedtuple('Answer', 'verdict places furthest')
 
+Place = namedtuple('Place', 'made missing state')
+
 ACTORS = 'CAB'
+
+GAP = '...'
+
+# How many steps a gap stands for at most, if nothing is said.
+DEFAULT_GAP = 4
 
 STEP_TABLE = os.path.join(TOP, 'docs', 'step-table.md')
 
@@ -50,9 +60,29 @@ def is_possible(action, told):
     return any(all(word == other for word, other in zip(told, outcome)) for outcome in OUTCOMES_OF[action])
 
 
+def is_gap(line):
+    return line.choice[1] == GAP
+
+
 def split(lines):
-    """The logs of some lines."""
+    """The logs of some lines, with their gaps."""
     return tuple(tuple(line for line in lines if line.choice[0] == actor) for actor in ACTORS)
+
+
+def made_of(log):
+    """The lines of a log that are no gaps."""
+    return tuple(line for line in log if not is_gap(line))
+
+
+def room_in(log, gap):
+    """How many steps may be missing from a log: before each of its lines, and behind the last."""
+    room = [0]
+    for line in log:
+        if is_gap(line):
+            room[-1] += gap
+        else:
+            room.append(0)
+    return room
 
 
 def sent_by(before, after):
@@ -77,13 +107,28 @@ def state_after(scenario, state, line):
     return after if agrees(line, outcome, sent) else None
 
 
-def next_places(scenario, logs, place):
+def put(numbers, x, number):
+    """Numbers of which one is another."""
+    return numbers[:x] + (number,) + numbers[x + 1:]
+
+
+def places_by_lines(scenario, logs, place):
     """The places one line further."""
-    made, state = place
+    made, missing, state = place
     for x, log in enumerate(logs):
         after = state_after(scenario, state, log[made[x]]) if made[x] < len(log) else None
         if after:
-            yield made[:x] + (made[x] + 1,) + made[x + 1:], after
+            yield Place(put(made, x, made[x] + 1), put(missing, x, 0), after)
+
+
+def places_by_missing(scenario, rooms, place):
+    """The places one missing step further, but for those of a step that changes nothing: what comes behind it comes without it."""
+    made, missing, state = place
+    for choice in considered(scenario, True):
+        x = ACTORS.index(choice[0])
+        after = step(scenario, state, choice)[1] if missing[x] < rooms[x][made[x]] else state
+        if after != state:
+            yield Place(made, put(missing, x, missing[x] + 1), after)
 
 
 def rank(made):
@@ -92,22 +137,46 @@ def rank(made):
     return a + b, -client
 
 
-def order(scenario, state, logs, most):
+def order(scenario, state, all_logs, gap, most):
     """Whether there is an order of the logs from a state on, if at most so many places are reached."""
-    places, level = set(), {((0, 0, 0), state)}
+    logs, rooms = [made_of(log) for log in all_logs], [room_in(log, gap) for log in all_logs]
+    places, level = set(), {Place((0, 0, 0), (0, 0, 0), state)}
     while level:
         places |= level
         if len(places) > most:
             raise TooMany
-        level = {after for place in level for after in next_places(scenario, logs, place)}
-    found = any(made == tuple(map(len, logs)) for made, _ in places)
-    best = max(rank(made) for made, _ in places)
-    return Answer('found' if found else 'none', places, [place for place in places if rank(place[0]) == best])
+        level = {after for place in level for after in (*places_by_lines(scenario, logs, place), *places_by_missing(scenario, rooms, place))} - places
+    found = any(place.made == tuple(map(len, logs)) for place in places)
+    best = max(rank(place.made) for place in places)
+    return Answer('found' if found else 'none', places, [place for place in places if rank(place.made) == best])
+
+
+def fillings(scenario, actor, gap):
+    """The lines that a gap of an actor may stand for: at most so many of steps of which nothing was logged."""
+    lines = [Line(choice, [], None) for choice in considered(scenario, True) if choice[0] == actor]
+    return [filling for count in range(gap + 1) for filling in product(lines, repeat=count)]
+
+
+def completions(scenario, log, gap):
+    """A log with each of its gaps filled in each way; a line is given with whether it is one of the log."""
+    parts = [[((line, True),)] if not is_gap(line) else [tuple((missing, False) for missing in filling)
+             for filling in fillings(scenario, line.choice[0], gap)] for line in log]
+    return [sum(chosen, ()) for chosen in product(*parts)]
 
 
 def merge_count(logs):
     client, a, b = map(len, logs)
     return comb(client + a + b, client) * comb(a + b, a)
+
+
+def trial_count(scenario, logs, gap):
+    """How many merges of completions there are at most."""
+    count = merge_count([made_of(log) + tuple(line for line in log if is_gap(line)) * gap for log in logs])
+    for line in sum(logs, ()):
+        if is_gap(line):
+            choices = sum(choice[0] == line.choice[0] for choice in considered(scenario, True))
+            count *= sum(choices ** steps for steps in range(gap + 1))
+    return count
 
 
 def merges(left):
@@ -121,19 +190,20 @@ def merges(left):
 
 
 def made_along(scenario, state, logs, merge):
-    """How many lines of each log are made along a merge, after each line that fits."""
-    made = (0, 0, 0)
+    """How many lines of each log are made along a merge of completions, after each line that fits."""
+    at, made = (0, 0, 0), (0, 0, 0)
     yield made
     for x in merge:
-        state = state_after(scenario, state, logs[x][made[x]])
+        line, is_logged = logs[x][at[x]]
+        state = state_after(scenario, state, line)
         if not state:
             return
-        made = made[:x] + (made[x] + 1,) + made[x + 1:]
+        at, made = put(at, x, at[x] + 1), put(made, x, made[x] + is_logged)
         yield made
 
 
-def tried_merges(scenario, state, logs):
-    """The verdict, and the rank of the furthest places, by trying each merge."""
-    lengths = tuple(map(len, logs))
-    reached = {made for merge in merges(lengths) for made in made_along(scenario, state, logs, merge)}
-    return 'found' if lengths in reached else 'none', max(map(rank, reached))
+def tried_merges(scenario, state, logs, gap):
+    """The verdict, and the rank of the furthest places, by trying each merge of each completion."""
+    reached = {made for completed in product(*(completions(scenario, log, gap) for log in logs))
+               for merge in merges(tuple(map(len, completed))) for made in made_along(scenario, state, completed, merge)}
+    return 'found' if tuple(len(made_of(log)) for log in logs) in reached else 'none', max(map(rank, reached))

@@ -1,13 +1,15 @@
-"""Random scenarios with logs of a run: each step a line of its actor's log, some of its parts left out, and the logs mixed."""
+"""Random scenarios with logs of a run: each step a line of its actor's log, some of its parts left out, and the logs mixed. Some logs lack lines, with a gap
+in their place."""
 
 from collections import namedtuple
 
-from plain_order import ACTORS, Line, TooMany, came_of, is_possible, order, split
+from plain_order import ACTORS, DEFAULT_GAP, GAP, Line, TooMany, came_of, is_gap, is_possible, order, split
 from plain_table import opening, read
 from random_questions import line_of, random_text, random_walk
 
-# A scenario with its own choices, the state after them, lines, and the whole text with the number of each line in it.
-Logs = namedtuple('Logs', 'scenario start lines text numbers')
+# A scenario with its own choices, the state after them, lines, how many steps a gap stands for at most, and the whole text with the number of each line
+# in it.
+Logs = namedtuple('Logs', 'scenario start lines gap text numbers')
 
 # How many places the model may come to.
 MOST = 2000
@@ -23,24 +25,26 @@ OUTCOMES = ('started', 'badmode', 'began A', 'began B', 'idle', 'elsewhere', 'no
 KINDS = ('wire', 'ready', 'dual', 'pull', 'page', 'finish', 'done')
 
 
-def random_logs(chance, changes):
-    """Logs of a random run with a number of changes, for which there are not too many places."""
+def random_logs(chance, changes, gaps):
+    """Logs of a random run with a number of changes and of gaps, for which there are not too many places."""
     while True:
         text = random_text(chance)
         scenario = read(text)
         kill = chance.random() < 0.5
         own, start = random_walk(chance, scenario, opening(scenario), kill, chance.choice([0, 0, 2, 6]))
-        steps, _ = random_walk(chance, scenario, start, kill, chance.randint(1, 30))
-        lines = logged(chance, scenario, start, steps)
+        steps, _ = random_walk(chance, scenario, start, kill, chance.randint(1, 12 if gaps else 30))
+        lines, gap = logged(chance, scenario, start, steps), chance.choice([1, 1, 2, 3, DEFAULT_GAP])
+        for _ in range(gaps):
+            lines = with_gap(chance, lines, gap)
         for _ in range(changes):
             lines = changed(chance, lines)
         try:
-            answer = order(scenario, start, split(lines), MOST)
+            answer = order(scenario, start, split(lines), gap, MOST)
         except TooMany:
             continue
         mixed_lines = mixed(chance, split(lines))
         head = text.replace('\nend\n', ''.join('\n' + line_of(choice) for choice in own) + '\nend\n')
-        return Logs(scenario._replace(choices=own), start, mixed_lines, *written(chance, scenario, head, mixed_lines)), answer
+        return Logs(scenario._replace(choices=own), start, mixed_lines, gap, *written(chance, scenario, head, mixed_lines)), answer
 
 
 def logged(chance, scenario, state, steps):
@@ -59,11 +63,26 @@ def shortened(chance, outcome):
     return outcome[:chance.randint(2 if outcome[0] == 'got' else 1, len(outcome))]
 
 
+def with_gap(chance, lines, gap):
+    """Lines with a gap, in the place of as many lines of an actor as it may stand for, or of fewer."""
+    actor = chance.choice(ACTORS)
+    own = [at for at, line in enumerate(lines) if line.choice[0] == actor]
+    first = chance.randint(0, len(own))
+    lacking = own[first:first + chance.randint(0, gap)]
+    if any(is_gap(lines[at]) for at in lacking):
+        lacking = []
+    behind = own[first] if first < len(own) else len(lines)
+    left = [(at, line) for at, line in enumerate(lines) if at not in lacking]
+    return [line for at, line in left if at < behind] + [Line((actor, GAP, None), [], None)] + [line for at, line in left if at >= behind]
+
+
 def changed(chance, lines):
     """Lines of which one is changed: it tells something else, is swapped with the next one of its actor, or is missing."""
     if not lines:
         return lines
     at = chance.randrange(len(lines))
+    if is_gap(lines[at]):
+        return swapped(lines, at)
     line, kind = lines[at], chance.choice(['outcome', 'outcome', 'message', 'swap', 'swap', 'missing'])
     if kind == 'swap':
         return swapped(lines, at)
@@ -103,6 +122,8 @@ def written(chance, scenario, head, lines):
 def spelled(chance, scenario, line):
     """A line as text."""
     actor, action, txn = line.choice
+    if is_gap(line):
+        return actor + chance.choice([' ', '  ', '\t']) + GAP
     words = [actor, action] + ([] if txn is None else [name_of(chance, scenario, txn)])
     if line.told:
         words += ['->'] + line.told[:1] + [name_of(chance, scenario, int(word)) if line.told[0] == 'active' else word for word in line.told[1:]]

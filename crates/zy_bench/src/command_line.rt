@@ -359,12 +359,22 @@ const ORDER_HELP: &'static str = concat!(
     "\n",
     "Lines:   CHOICE -> OUTCOME ! KIND, in the words of a listing, where ! KIND is the message that was\n",
     "         sent. CHOICE alone, or CHOICE -> ?, says nothing of what came. Numbers of an outcome may\n",
-    "         be left out from the end on: docs/order.md has the form. With --json a line is an object\n",
-    "         in place of this: {\"actor\":\"A\",\"do\":\"run 0\",\"came\":\"did\"}\n",
+    "         be left out from the end on: docs/order.md has the form. C ..., A ... and B ... stand for\n",
+    "         steps of the actor that its log lacks there, or for none: at most N of --gap N. With --json\n",
+    "         a line is an object in place of this: {\"actor\":\"A\",\"do\":\"run 0\",\"came\":\"did\"}\n",
     "\n",
     "Example:\n",
     "  cat SCENARIO client.log a.log b.log | zy_bench order | zy_bench run"
 );
+
+/// `--gap`.
+fn gap_argument<'a>(alloc: Global) -> Arg<'a> {
+    Arg::new(alloc, "gap")
+        .long("gap")
+        .value_name("N")
+        .value_parser(value_parser!(u16).range(1..=64))
+        .help("Lets a line ... stand for at most N missing steps: 1 to 64, default 4")
+}
 
 /// `--furthest`.
 fn furthest_argument<'a>(alloc: Global) -> Arg<'a> {
@@ -383,6 +393,7 @@ fn order_command<'a>(alloc: Global) -> Result<Command<'a>, AllocError> {
             alloc,
             "The lines of the logs are objects of JSON, as run --json writes them",
         ))?
+        .arg(gap_argument(alloc))?
         .arg(states_argument(alloc))?
         .arg(canon_flag(alloc))?
         .arg(furthest_argument(alloc))?
@@ -473,6 +484,7 @@ fn order_of<'a>(words: &ArgMatches<'a>) -> LogQuest<'a> {
         options: OrderOptions {
             wording: wording_of(words),
             logs: logs_of(words),
+            gap: words.get_one("gap").unwrap_or(4),
             most: most_of(words),
         },
         furthest: words.get_str("furthest"),

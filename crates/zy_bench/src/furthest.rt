@@ -4,6 +4,7 @@ use crate::again::make_again;
 use crate::excerpt::Excerpt;
 use crate::explained::go_on;
 use crate::origin::Origin;
+use crate::summary::Count;
 use std::alloc::{AllocError, Global};
 use std::fmt;
 use zy_diagnostics::line::SourceLine;
@@ -12,10 +13,11 @@ use zy_engine::{BenchFault, Format};
 use zy_io::{Line, LineBuffer, MAX_INPUT};
 use zy_isa::{Actor, Choice, MAX_CHOICES};
 use zy_listing::StepLine;
-use zy_logs::NumberedLine;
+use zy_logs::{LogLine, Logged, NumberedLine};
 use zy_machine::{Fault, Machine};
+use zy_order::Taken;
 use zy_ordering::logs_below::read_below;
-use zy_ordering::{BelowFault, LogFormat};
+use zy_ordering::{BelowFault, LogFormat, OrderOptions};
 use zy_table::Entry;
 use zy_text::cut::cut_len;
 
@@ -28,6 +30,15 @@ pub struct Counts {
 }
 
 impl Counts {
+    /// Those that an order takes.
+    fn taken(taken: Taken) -> Counts {
+        Counts {
+            c: taken.c,
+            a: taken.a,
+            b: taken.b,
+        }
+    }
+
     /// None.
     fn none() -> Counts {
         Counts { c: 0, a: 0, b: 0 }
@@ -53,20 +64,31 @@ impl Counts {
     }
 }
 
-/// How many choices of each actor there are.
-fn counts_of(choices: &[Choice]) -> Counts {
-    let mut counts = Counts::none();
-    for choice in choices {
-        counts.add(choice.actor());
-    }
-    counts
+/// What was logged of a step, and the number of its line.
+#[derive(Clone, Copy)]
+struct NumberedStep {
+    number: usize,
+    step: LogLine,
 }
 
-/// How many lines of each actor there are.
+/// The step that a line has, if it is one of an actor.
+fn step_by(line: &NumberedLine, actor: Actor) -> Option<NumberedStep> {
+    match line.logged {
+        Logged::Step(step) if step.choice.actor() == actor => Some(NumberedStep {
+            number: line.number,
+            step,
+        }),
+        _ => None,
+    }
+}
+
+/// How many steps of each actor lines have.
 fn counts_in(lines: &[NumberedLine]) -> Counts {
     let mut counts = Counts::none();
     for line in lines {
-        counts.add(line.line.choice.actor());
+        if let Logged::Step(step) = line.logged {
+            counts.add(step.choice.actor());
+        }
     }
     counts
 }
@@ -85,22 +107,24 @@ pub struct Furthest {
 }
 
 impl Furthest {
-    /// The end of the order that makes these choices, of the logs of an input that is read without a fault.
+    /// The end of the order that makes these choices and takes as many lines, of the logs of an input that is read without a
+    /// fault, where a gap counts for `options.gap` choices.
     pub fn of(
         alloc: Global,
-        logs: LogFormat,
+        options: OrderOptions,
         input: &[u8],
         order: &[Choice],
+        taken: Taken,
     ) -> Result<Furthest, BenchFault> {
         let (text, below) = input.split_at(cut_len(input).min(input.len()));
         let mut machine = make_again(alloc, Format::Text, text)?;
-        let lines = lines_again(alloc, logs, &machine, text, below)?;
+        let lines = lines_again(alloc, options, &machine, text, below)?;
         go_on(&mut machine, order)?;
         Ok(Furthest {
             machine,
-            logs,
+            logs: options.logs,
             lines,
-            taken: counts_of(order),
+            taken: Counts::taken(taken),
         })
     }
 
@@ -113,12 +137,12 @@ impl Furthest {
     }
 
     /// The first line of an actor that it does not take.
-    fn next(&self, actor: Actor) -> Option<NumberedLine> {
+    fn next(&self, actor: Actor) -> Option<NumberedStep> {
         let mut passed = 0usize;
         for line in &self.lines {
-            if line.line.choice.actor() == actor {
+            if let Some(step) = step_by(line, actor) {
                 if passed == self.taken.of(actor) {
-                    return Some(*line);
+                    return Some(step);
                 }
                 passed = passed.saturating_add(1);
             }
@@ -137,9 +161,9 @@ impl Furthest {
     }
 
     /// The step that comes at its end of the choice of a line that does not fit there.
-    fn instead(&self, alloc: Global, line: NumberedLine) -> Result<Option<LineBuffer>, Fault> {
-        match self.entry(alloc, line.line.choice)? {
-            Some(entry) if !line.line.agrees(&entry) => Ok(Some(step_line(alloc, &entry)?)),
+    fn instead(&self, alloc: Global, line: LogLine) -> Result<Option<LineBuffer>, Fault> {
+        match self.entry(alloc, line.choice)? {
+            Some(entry) if !line.agrees(&entry) => Ok(Some(step_line(alloc, &entry)?)),
             _ => Ok(None),
         }
     }
@@ -147,8 +171,8 @@ impl Furthest {
     /// Says on standard error which next lines do not fit, and what the table gives.
     pub fn tell<R: Eprint + AllocGlobal>(&self, rt: &R, file: Option<&str>, input: &[u8]) {
         for actor in [Actor::C, Actor::A, Actor::B] {
-            if let Some(line) = self.next(actor) {
-                self.tell_line(rt, file, input, line);
+            if let Some(next) = self.next(actor) {
+                self.tell_line(rt, file, input, next);
             }
         }
     }
@@ -159,13 +183,13 @@ impl Furthest {
         rt: &R,
         file: Option<&str>,
         input: &[u8],
-        line: NumberedLine,
+        next: NumberedStep,
     ) {
-        if let Ok(Some(step)) = self.instead(rt.alloc(), line) {
-            let source = SourceLine::of(input, line.number);
+        if let Ok(Some(step)) = self.instead(rt.alloc(), next.step) {
+            let source = SourceLine::of(input, next.number);
             let unfit = Unfit {
                 file,
-                number: line.number,
+                number: next.number,
                 bytes: match self.logs {
                     LogFormat::Text => source.statement().bytes,
                     LogFormat::Json => source.bytes,
@@ -180,7 +204,7 @@ impl Furthest {
 /// The lines of the logs that are below a machine's scenario.
 fn lines_again(
     alloc: Global,
-    logs: LogFormat,
+    options: OrderOptions,
     machine: &Machine,
     text: &[u8],
     below: &[u8],
@@ -188,7 +212,14 @@ fn lines_again(
     if MAX_INPUT < text.len() || MAX_INPUT < below.len() {
         return Err(BenchFault::TooLong);
     }
-    match read_below(alloc, logs, machine.scenario(), text, below) {
+    match read_below(
+        alloc,
+        options.logs,
+        options.gap,
+        machine.scenario(),
+        text,
+        below,
+    ) {
         Ok(lines) => Ok(lines),
         Err(BelowFault::Memory) => Err(BenchFault::Memory),
         Err(BelowFault::Log(_) | BelowFault::Json(_)) => Ok(Vec::new(alloc)),
@@ -207,6 +238,35 @@ fn behind_arrow(line: &[u8]) -> &[u8] {
     let arrow = line.iter().position(|byte| *byte == b'>');
     let behind = arrow.and_then(|arrow| line.get(arrow.saturating_add(2)..));
     behind.unwrap_or(line)
+}
+
+/// The lines that an order has, and the steps that are missing from the logs.
+#[derive(Clone, Copy)]
+pub struct Steps {
+    lines: usize,
+    missing: usize,
+}
+
+impl Steps {
+    /// Those of an order of so many choices that takes so many lines.
+    pub fn of(taken: Taken, choices: usize) -> Steps {
+        let lines = taken.c.saturating_add(taken.a).saturating_add(taken.b);
+        Steps {
+            lines,
+            missing: choices.saturating_sub(lines),
+        }
+    }
+}
+
+impl fmt::Display for Steps {
+    fn fmt<W: fmt::Write>(&self, f: &mut fmt::Formatter<W>) -> fmt::Result {
+        let lines = Count::of(self.lines, "line");
+        if self.missing == 0 {
+            return write!(f, "{lines}");
+        }
+        let missing = Count::of(self.missing, "missing step");
+        write!(f, "{lines} and {missing}")
+    }
 }
 
 /// How many lines of each actor an order takes, of how many.

@@ -16,10 +16,14 @@ struct Counted {
 }
 
 /// The flags that take a number.
-const COUNTED: [Counted; 5] = [
+const COUNTED: [Counted; 6] = [
     Counted {
         flag: "--from",
         most: MAX_CHOICES as u64,
+    },
+    Counted {
+        flag: "--gap",
+        most: 64,
     },
     Counted {
         flag: "--states",

@@ -3,7 +3,7 @@ ghost use Rattle.std.specs.Prelude.{◌<◌};
 
 use crate::command_line::LogQuest;
 use crate::exit_status::{DONE, NOWHERE, SPENT};
-use crate::furthest::Furthest;
+use crate::furthest::{Furthest, Steps};
 use crate::keeping::Keeper;
 use crate::output::{PipeSink, flush};
 use crate::refused_line::RefusedLine;
@@ -33,7 +33,7 @@ pub fn order<R: Eprint + Files + AllocGlobal, G: Read, W: Write>(
     match order_bytes(rt.alloc(), quest.options, source, output, input) {
         Ok(report) => {
             flush(output)?;
-            let status = sum_up(rt, quest.options.logs, file, input.as_slice(), &report)?;
+            let status = sum_up(rt, quest, file, input.as_slice(), &report)?;
             Ok(kept(rt, quest, input.as_slice(), &report.answer).unwrap_or(status))
         }
         Err(OrderFault::Bench(fault)) => Err(fault),
@@ -88,7 +88,7 @@ fn kept<R: Eprint + Files + AllocGlobal>(
 /// Reports on standard error what came of a search for an order, and gives the exit status.
 fn sum_up<R: Eprint + AllocGlobal>(
     rt: &R,
-    logs: LogFormat,
+    quest: LogQuest<'_>,
     file: Option<&str>,
     input: &[u8],
     report: &OrderReport,
@@ -96,12 +96,12 @@ fn sum_up<R: Eprint + AllocGlobal>(
     let states = Count::of(report.states, "state");
     match &report.answer {
         OrderAnswer::Found(order) => {
-            let lines = Count::of(order.len(), "line");
-            let _ = eprintln!(rt; "zy_bench: found after {states}: an order of {lines}");
+            let steps = Steps::of(report.taken, order.len());
+            let _ = eprintln!(rt; "zy_bench: found after {states}: an order of {steps}");
             Ok(DONE)
         }
         OrderAnswer::Nowhere(order) => {
-            let furthest = Furthest::of(rt.alloc(), logs, input, order)?;
+            let furthest = Furthest::of(rt.alloc(), quest.options, input, order, report.taken)?;
             let reach = furthest.reach();
             let _ = eprintln!(rt;
                 "zy_bench: there is no order, after {states}: the furthest takes {reach}"
@@ -110,7 +110,7 @@ fn sum_up<R: Eprint + AllocGlobal>(
             Ok(NOWHERE)
         }
         OrderAnswer::Spent(order) => {
-            let furthest = Furthest::of(rt.alloc(), logs, input, order)?;
+            let furthest = Furthest::of(rt.alloc(), quest.options, input, order, report.taken)?;
             let reach = furthest.reach();
             let _ = eprintln!(rt;
                 "zy_bench: gave up after {states}: no order was found, and the furthest that was tried takes {reach}"

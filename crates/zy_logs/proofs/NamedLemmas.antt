@@ -1,10 +1,11 @@
 -- Lines that are read name transactions that there are, and are no more than there may be.
-use Rattle.std.proofs.Common.{◌≡◌, ℕ, ◌+◌, ◌≤◌, Bool, true, false, List, [], ◌∷◌, length, codes, refl, subst, inl, inr, arith}
-use Rattle.std.specs.Prelude.{Option, Some, None, Result, Ok, Err, nat_lt, if◌then◌else◌}
+use Rattle.std.proofs.Common.{◌≡◌, ℕ, ◌+◌, ◌-◌, ◌≤◌, Bool, true, false, List, [], ◌∷◌, length, codes, refl, subst, inl, inr, arith}
+use Rattle.std.specs.Prelude.{Option, Some, None, Result, Ok, Err, nat_le, nat_lt, if◌then◌else◌}
 use Rattle.std.specs.Option.{option_and_then}
-use Rattle.std.proofs.lemmas.Bool.{cases_Bool, ltb-true}
+use Rattle.std.proofs.lemmas.Bool.{cases_Bool, leb-true}
 use Rattle.zy_isa.specs.declared.node.Node.{Node}
 use Rattle.zy_isa.specs.declared.node.Node.TheVariants.{A, B}
+use Rattle.zy_isa.specs.declared.node.Actor.{Actor}
 use Rattle.zy_isa.specs.declared.choice.Choice.{Choice}
 use Rattle.zy_isa.specs.declared.choice.Choice.TheVariants as choice
 use Rattle.zy_isa.specs.Choices.{names_below}
@@ -17,14 +18,16 @@ use Rattle.zy_logs.specs.declared.expected.ExpectedInLog.TheVariants as expected
 use Rattle.zy_logs.specs.declared.expected.Misread.{Misread}
 use Rattle.zy_logs.specs.declared.faults.LogLineFault.{LogLineFault}
 use Rattle.zy_logs.specs.declared.log_line.LogLine.{LogLine}
+use Rattle.zy_logs.specs.declared.log_line.Logged.{Logged}
+use Rattle.zy_logs.specs.declared.log_line.Logged.TheVariants.{Step, Gap}
 use Rattle.zy_logs.specs.declared.logs.NumberedLine.{NumberedLine}
 use Rattle.zy_logs.specs.declared.told.Told.{Told}
 use Rattle.zy_logs.specs.declared.txns.Txns.{Txns}
 use Rattle.zy_logs.specs.Words.{Word, Read, first, after, are_none, begin_with, refused, gives, made}
 use Rattle.zy_logs.specs.Txns.{below, place}
 use Rattle.zy_logs.specs.Parts.{txn}
-use Rattle.zy_logs.specs.Lines.{client_choice, node_choice, choice_of, told_of, sent_of, whole, placed, line_of}
-use Rattle.zy_logs.specs.Logs.{in_line, fitting, line_at, listed, joined, lines_from, logs_of, choices_of}
+use Rattle.zy_logs.specs.Lines.{client_choice, node_choice, choice_of, told_of, sent_of, whole, whose, gap_end, gap, gap_or_step, placed, line_of}
+use Rattle.zy_logs.specs.Logs.{in_line, steps_of, steps_in, fitting, line_at, listed, joined, lines_from, logs_of, choices_of}
 
 -- ---- the number of a transaction
 
@@ -140,17 +143,50 @@ named_whole : (txns : Txns) (r : Read Choice) → Named txns.count r
 named_whole txns (Ok c) e = named_told txns.count c.0 (told_of txns c.0 c.1) e
 named_whole txns (Err s) e = tt
 
+-- what is read names one below count, if it is a step
+abbrev LoggedNamed : ℕ → Logged → Type 0
+LoggedNamed count (Step line) = names_below count line.choice ≡ true
+LoggedNamed count (Gap x) = Unit {0}
+
+abbrev ReadsNamed : ℕ → Read Logged → Type 0
+ReadsNamed count (Ok x) = LoggedNamed count x.0
+ReadsNamed count (Err s) = Unit {0}
+
+-- one of two
+reads_either : (count : ℕ) (b : Bool) (x y : Read Logged) → ReadsNamed count x → ReadsNamed count y → ReadsNamed count (if b then x else y)
+reads_either count true x y left right = left
+reads_either count false x y left right = right
+
+-- a gap names none
+named_gap_end : (count : ℕ) (x : Actor) (ws : List Word) → ReadsNamed count (gap_end x ws)
+named_gap_end count x ws = reads_either count (are_none ws) (Ok (Gap x, ws)) (refused expected.EndOfGap ws) tt tt
+
+named_gap : (count : ℕ) (r : Read Actor) → ReadsNamed count (r >>= λ x. gap_end x.0 (after x.1))
+named_gap count (Ok x) = named_gap_end count x.0 (after x.1)
+named_gap count (Err s) = tt
+
+-- a step does
+named_step : (count : ℕ) (r : Read LogLine) → ReadNamed count r → ReadsNamed count (made Step r)
+named_step count (Ok x) e = e
+named_step count (Err s) e = tt
+
+-- so does what is read in all
+named_read : (txns : Txns) (ws : List Word) → ReadsNamed txns.count (gap_or_step txns ws)
+named_read txns ws = reads_either txns.count (begin_with (codes "...") (after ws)) (gap ws) (made Step (whole txns ws))
+    (named_gap txns.count (whose ws))
+    (named_step txns.count (whole txns ws) (named_whole txns (choice_of txns ws) (named_choice txns ws)))
+
 -- so does one whose fault has a place
-abbrev LineNamed : ℕ → Result LogLine Misread → Type 0
-LineNamed count (Ok line) = names_below count line.choice ≡ true
+abbrev LineNamed : ℕ → Result Logged Misread → Type 0
+LineNamed count (Ok logged) = LoggedNamed count logged
 LineNamed count (Err e) = Unit {0}
 
-named_placed : (count size : ℕ) (r : Read LogLine) → ReadNamed count r → LineNamed count (placed size r)
+named_placed : (count size : ℕ) (r : Read Logged) → ReadsNamed count r → LineNamed count (placed size r)
 named_placed count size (Ok x) e = e
 named_placed count size (Err s) e = tt
 
 named_line : (txns : Txns) (ws : List Word) → LineNamed txns.count (line_of txns ws)
-named_line txns ws = named_placed txns.count (length ws) (whole txns ws) (named_whole txns (choice_of txns ws) (named_choice txns ws))
+named_line txns ws = named_placed txns.count (length ws) (gap_or_step txns ws) (named_read txns ws)
 
 -- ---- the lines of a text
 
@@ -159,25 +195,37 @@ abbrev AtNamed : ℕ → Result (Option NumberedLine) LogLineFault → Type 0
 AtNamed count (Ok first) = AreNamed count (choices_of (listed first))
 AtNamed count (Err r) = Unit {0}
 
-named_fitting : (count most taken n : ℕ) (r : Result LogLine Misread) → LineNamed count r → AtNamed count (in_line n r >>= fitting most taken n)
-named_fitting count most taken n (Ok line) e = elim (nat_lt taken most) as (λ (b : Bool). AtNamed count
-    (if b then Ok (Some (record { number = n; line = line })) else Err (record { line = n; word = 0; expected = expected.FewerLines })))
-    [ true ↦ (e, tt) | false ↦ tt ]
-named_fitting count most taken n (Err x) e = tt
+-- where it is a step or a gap
+named_numbered : (count n : ℕ) (logged : Logged) → LoggedNamed count logged
+    → AreNamed count (choices_of (listed (Some (record { number = n; logged = logged }))))
+named_numbered count n (Step line) e = (e, tt)
+named_numbered count n (Gap x) e = tt
 
-named_at : (txns : Txns) (most taken n : ℕ) (ws : List Word) → AtNamed txns.count (line_at txns most taken n ws)
-named_at txns most taken n [] = tt
-named_at txns most taken n (w ∷ ws) = named_fitting txns.count most taken n (line_of txns (w ∷ ws)) (named_line txns (w ∷ ws))
+named_fitting : (count gap room n : ℕ) (r : Result Logged Misread) → LineNamed count r → AtNamed count (in_line n r >>= fitting gap room n)
+named_fitting count gap room n (Ok logged) e = elim (nat_le (steps_of gap logged) room) as (λ (b : Bool). AtNamed count
+    (if b then Ok (Some (record { number = n; logged = logged })) else Err (record { line = n; word = 0; expected = expected.FewerLines })))
+    [ true ↦ named_numbered count n logged e | false ↦ tt ]
+named_fitting count gap room n (Err x) e = tt
+
+named_at : (txns : Txns) (gap room n : ℕ) (ws : List Word) → AtNamed txns.count (line_at txns gap room n ws)
+named_at txns gap room n [] = tt
+named_at txns gap room n (w ∷ ws) = named_fitting txns.count gap room n (line_of txns (w ∷ ws)) (named_line txns (w ∷ ws))
 
 -- what lines say does
 abbrev AllNamed : ℕ → Result (List NumberedLine) LogLineFault → Type 0
 AllNamed count (Ok lines) = AreNamed count (choices_of lines)
 AllNamed count (Err r) = Unit {0}
 
+-- the choices of a line and of those that come after it
+named_behind : (count n : ℕ) (logged : Logged) (lines : List NumberedLine) → AreNamed count (choices_of (record { number = n; logged = logged } ∷ []))
+    → AreNamed count (choices_of lines) → AreNamed count (choices_of (record { number = n; logged = logged } ∷ lines))
+named_behind count n (Step line) lines a b = (a.0, b)
+named_behind count n (Gap x) lines a b = b
+
 named_joined : (count : ℕ) (first : Option NumberedLine) (said : Result (List NumberedLine) LogLineFault)
     → AreNamed count (choices_of (listed first)) → AllNamed count said → AllNamed count (joined (listed first) said)
 named_joined count None (Ok lines) a b = b
-named_joined count (Some l) (Ok lines) a b = (a.0, b)
+named_joined count (Some l) (Ok lines) a b = named_behind count l.number l.logged lines a b
 named_joined count None (Err r) a b = tt
 named_joined count (Some l) (Err r) a b = tt
 
@@ -186,62 +234,60 @@ named_more : (count : ℕ) (r : Result (Option NumberedLine) LogLineFault) (rest
 named_more count (Ok first) rest a b = named_joined count first (rest first) a (b first)
 named_more count (Err x) rest a b = tt
 
-named_from : (txns : Txns) (most taken n : ℕ) (ls : List (List ℕ)) → AllNamed txns.count (lines_from txns most taken n ls)
-named_from txns most taken n [] = tt
-named_from txns most taken n (l ∷ ls) = named_more txns.count (line_at txns most taken n (words_of l))
-    (λ first. lines_from txns most (taken + length (listed first)) (n + 1) ls) (named_at txns most taken n (words_of l))
-    (λ first. named_from txns most (taken + length (listed first)) (n + 1) ls)
+named_from : (txns : Txns) (gap room n : ℕ) (ls : List (List ℕ)) → AllNamed txns.count (lines_from txns gap room n ls)
+named_from txns gap room n [] = tt
+named_from txns gap room n (l ∷ ls) = named_more txns.count (line_at txns gap room n (words_of l))
+    (λ first. lines_from txns gap (room - steps_in gap (listed first)) (n + 1) ls) (named_at txns gap room n (words_of l))
+    (λ first. named_from txns gap (room - steps_in gap (listed first)) (n + 1) ls)
 
 -- the lines of a text name transactions that there are
-pub logs_named : (txns : Txns) (most first : ℕ) (text : List ℕ) (lines : List NumberedLine)
-    → logs_of txns most first text ≡ Ok lines → AreNamed txns.count (choices_of lines)
-logs_named txns most first text lines e = subst (AllNamed txns.count) e (named_from txns most 0 first (lines_of text))
+pub logs_named : (txns : Txns) (gap most first : ℕ) (text : List ℕ) (lines : List NumberedLine)
+    → logs_of txns gap most first text ≡ Ok lines → AreNamed txns.count (choices_of lines)
+logs_named txns gap most first text lines e = subst (AllNamed txns.count) e (named_from txns gap most first (lines_of text))
 
--- ---- how many there are
+-- ---- how many steps they count for
 
--- with what a line says there are no more than there may be
+-- what a line says counts for no more steps than there is room for
 abbrev AtFew : ℕ → ℕ → Result (Option NumberedLine) LogLineFault → Type 0
-AtFew most taken (Ok first) = taken + length (listed first) ≤ most
-AtFew most taken (Err r) = Unit {0}
+AtFew gap room (Ok first) = steps_in gap (listed first) ≤ room
+AtFew gap room (Err r) = Unit {0}
 
-few_fitting : (most taken n : ℕ) (r : Result LogLine Misread) → AtFew most taken (in_line n r >>= fitting most taken n)
-few_fitting most taken n (Ok line) = elim (cases_Bool (nat_lt taken most)) [
-  | inl e ↦ rw e (omega (arith, ltb-true taken most e))
+few_fitting : (gap room n : ℕ) (r : Result Logged Misread) → AtFew gap room (in_line n r >>= fitting gap room n)
+few_fitting gap room n (Ok logged) = elim (cases_Bool (nat_le (steps_of gap logged) room)) [
+  | inl e ↦ rw e (omega (arith, leb-true (steps_of gap logged) room e))
   | inr e ↦ rw e tt
 ]
-few_fitting most taken n (Err x) = tt
+few_fitting gap room n (Err x) = tt
 
-few_at : (txns : Txns) (most taken n : ℕ) (ws : List Word) → taken ≤ most → AtFew most taken (line_at txns most taken n ws)
-few_at txns most taken n [] h = omega (arith, h)
-few_at txns most taken n (w ∷ ws) h = few_fitting most taken n (line_of txns (w ∷ ws))
+few_at : (txns : Txns) (gap room n : ℕ) (ws : List Word) → AtFew gap room (line_at txns gap room n ws)
+few_at txns gap room n [] = omega arith
+few_at txns gap room n (w ∷ ws) = few_fitting gap room n (line_of txns (w ∷ ws))
 
--- nor with what lines say
+-- so do lines
 abbrev AllFew : ℕ → ℕ → Result (List NumberedLine) LogLineFault → Type 0
-AllFew most taken (Ok lines) = taken + length lines ≤ most
-AllFew most taken (Err r) = Unit {0}
+AllFew gap room (Ok lines) = steps_in gap lines ≤ room
+AllFew gap room (Err r) = Unit {0}
 
-few_joined : (most taken : ℕ) (first : Option NumberedLine) (said : Result (List NumberedLine) LogLineFault)
-    → AllFew most (taken + length (listed first)) said → AllFew most taken (joined (listed first) said)
-few_joined most taken None (Ok lines) h = omega (arith, h)
-few_joined most taken (Some l) (Ok lines) h = omega (arith, h)
-few_joined most taken None (Err r) h = tt
-few_joined most taken (Some l) (Err r) h = tt
+few_joined : (gap room : ℕ) (first : Option NumberedLine) (said : Result (List NumberedLine) LogLineFault) → steps_in gap (listed first) ≤ room
+    → AllFew gap (room - steps_in gap (listed first)) said → AllFew gap room (joined (listed first) said)
+few_joined gap room None (Ok lines) a h = omega (arith, h)
+few_joined gap room (Some l) (Ok lines) a h = omega (arith, a, h)
+few_joined gap room None (Err r) a h = tt
+few_joined gap room (Some l) (Err r) a h = tt
 
-few_more : (most taken : ℕ) (r : Result (Option NumberedLine) LogLineFault) (rest : Option NumberedLine → Result (List NumberedLine) LogLineFault)
-    → AtFew most taken r → ((first : Option NumberedLine) → taken + length (listed first) ≤ most → AllFew most (taken + length (listed first)) (rest first))
-    → AllFew most taken (r >>= λ first. joined (listed first) (rest first))
-few_more most taken (Ok first) rest a b = few_joined most taken first (rest first) (b first a)
-few_more most taken (Err x) rest a b = tt
+few_more : (gap room : ℕ) (r : Result (Option NumberedLine) LogLineFault) (rest : Option NumberedLine → Result (List NumberedLine) LogLineFault)
+    → AtFew gap room r → ((first : Option NumberedLine) → AllFew gap (room - steps_in gap (listed first)) (rest first))
+    → AllFew gap room (r >>= λ first. joined (listed first) (rest first))
+few_more gap room (Ok first) rest a b = few_joined gap room first (rest first) a (b first)
+few_more gap room (Err x) rest a b = tt
 
-few_from : (txns : Txns) (most taken n : ℕ) (ls : List (List ℕ)) → taken ≤ most → AllFew most taken (lines_from txns most taken n ls)
-few_from txns most taken n [] h = omega (arith, h)
-few_from txns most taken n (l ∷ ls) h = few_more most taken (line_at txns most taken n (words_of l))
-    (λ first. lines_from txns most (taken + length (listed first)) (n + 1) ls) (few_at txns most taken n (words_of l) h)
-    (λ first a. few_from txns most (taken + length (listed first)) (n + 1) ls a)
+few_from : (txns : Txns) (gap room n : ℕ) (ls : List (List ℕ)) → AllFew gap room (lines_from txns gap room n ls)
+few_from txns gap room n [] = omega arith
+few_from txns gap room n (l ∷ ls) = few_more gap room (line_at txns gap room n (words_of l))
+    (λ first. lines_from txns gap (room - steps_in gap (listed first)) (n + 1) ls) (few_at txns gap room n (words_of l))
+    (λ first. few_from txns gap (room - steps_in gap (listed first)) (n + 1) ls)
 
--- the lines of a text are no more than there may be
-pub logs_few : (txns : Txns) (most first : ℕ) (text : List ℕ) (lines : List NumberedLine)
-    → logs_of txns most first text ≡ Ok lines → length lines ≤ most
-logs_few txns most first text lines e =
-    let all : 0 + length lines ≤ most = subst (AllFew most 0) e (few_from txns most 0 first (lines_of text) (omega arith)) in
-    omega (arith, all)
+-- the lines of a text count for no more than there may be
+pub logs_few : (txns : Txns) (gap most first : ℕ) (text : List ℕ) (lines : List NumberedLine)
+    → logs_of txns gap most first text ≡ Ok lines → steps_in gap lines ≤ most
+logs_few txns gap most first text lines e = subst (AllFew gap most) e (few_from txns gap most first (lines_of text))

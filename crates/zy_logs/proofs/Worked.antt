@@ -1,11 +1,13 @@
 -- Worked lines: what some words spell, and what agrees with it, computed.
 use Rattle.std.proofs.Common.{◌≡◌, ℕ, ◌++◌, List, [], ◌∷◌, None, Some, Ok, Err, codes, refl}
 use Rattle.zy_isa.specs.declared.node.Node.TheVariants.{A, B}
+use Rattle.zy_isa.specs.declared.node.Actor.TheVariants as actor
 use Rattle.zy_isa.specs.declared.choice.Choice.TheVariants.{Take, Push, Run, Begin, Kill}
 use Rattle.zy_model.specs.declared.kind.Kind.TheVariants as message
 use Rattle.zy_table.specs.declared.outcome.Outcome.TheVariants as outcome
 use Rattle.zy_text.specs.Words.{words_of}
 use Rattle.zy_logs.specs.declared.expected.ExpectedInLog.TheVariants as expected
+use Rattle.zy_logs.specs.declared.log_line.Logged.TheVariants.{Step, Gap}
 use Rattle.zy_logs.specs.declared.told.LoggedReason.TheVariants as reason
 use Rattle.zy_logs.specs.declared.told.Told.TheVariants as told
 use Rattle.zy_logs.specs.declared.txns.Txns.{Txns}
@@ -24,23 +26,23 @@ open_all = 0
 module _ (txns : Txns) where
   -- a choice, its outcome and a message
   takes : line_of txns (words_of (codes "A take -> got ready ! dual"))
-      ≡ Ok (record { choice = Take A; told = Some told.GotReady; sent = Some message.Dual })
+      ≡ Ok (Step (record { choice = Take A; told = Some told.GotReady; sent = Some message.Dual }))
   unfolding open_all
   takes = refl
 
   -- a choice alone
-  alone : line_of txns (words_of (codes "  B take ; nothing was logged")) ≡ Ok (record { choice = Take B; told = None; sent = None })
+  alone : line_of txns (words_of (codes "  B take ; nothing was logged")) ≡ Ok (Step (record { choice = Take B; told = None; sent = None }))
   unfolding open_all
   alone = refl
 
   -- what came was not logged, and a message was
-  unknown : line_of txns (words_of (codes "B push -> ? ! page")) ≡ Ok (record { choice = Push B; told = None; sent = Some message.Page })
+  unknown : line_of txns (words_of (codes "B push -> ? ! page")) ≡ Ok (Step (record { choice = Push B; told = None; sent = Some message.Page }))
   unfolding open_all
   unknown = refl
 
   -- the number is left out before a message
   without_page : line_of txns (words_of (codes "B push -> pushed ! page"))
-      ≡ Ok (record { choice = Push B; told = Some (told.Pushed None); sent = Some message.Page })
+      ≡ Ok (Step (record { choice = Push B; told = Some (told.Pushed None); sent = Some message.Page }))
   unfolding open_all
   without_page = refl
 
@@ -66,19 +68,19 @@ module _ (txns : Txns) where
 
   -- a transaction by its number
   begins : txns.count ≡ 1 → line_of txns (words_of (codes "C begin 0 -> began A"))
-      ≡ Ok (record { choice = Begin 0; told = Some (told.Began (Some A)); sent = None })
+      ≡ Ok (Step (record { choice = Begin 0; told = Some (told.Began (Some A)); sent = None }))
   unfolding open_all
   begins one = rw one refl
 
   -- and by its name; the number of the commit is left out
   commits : txns.count ≡ 1 → place txns.names.now (codes "transfer") ≡ Some 0 → line_of txns (words_of (codes "A run transfer -> committed"))
-      ≡ Ok (record { choice = Run A 0; told = Some (told.Committed None); sent = None })
+      ≡ Ok (Step (record { choice = Run A 0; told = Some (told.Committed None); sent = None }))
   unfolding open_all
   commits one known = rw (known, one) refl
 
   -- `killed` is the client's abort alone
   kills : txns.count ≡ 1 → line_of txns (words_of (codes "C kill 0 -> aborted killed"))
-      ≡ Ok (record { choice = Kill 0; told = Some (told.Aborted (Some reason.Killed)); sent = None })
+      ≡ Ok (Step (record { choice = Kill 0; told = Some (told.Aborted (Some reason.Killed)); sent = None }))
   unfolding open_all
   kills one = rw one refl
 
@@ -92,20 +94,60 @@ module _ (txns : Txns) where
   unfolding open_all
   no_txn one = rw one refl
 
+  -- a gap tells its actor
+  gap_of_a : line_of txns (words_of (codes "A ...")) ≡ Ok (Gap actor.A)
+  unfolding open_all
+  gap_of_a = refl
+
+  -- with comments and spaces, too
+  gap_of_c : line_of txns (words_of (codes "  C   ... ; who knows")) ≡ Ok (Gap actor.C)
+  unfolding open_all
+  gap_of_c = refl
+
+  -- nothing comes after it
+  gap_told : line_of txns (words_of (codes "B ... -> idle")) ≡ Err (record { word = 2; expected = expected.EndOfGap })
+  unfolding open_all
+  gap_told = refl
+
+  -- it is of an actor
+  gap_of_none : line_of txns (words_of (codes "D ...")) ≡ Err (record { word = 0; expected = expected.Actor })
+  unfolding open_all
+  gap_of_none = refl
+
+  -- four dots are no gap
+  no_gap : line_of txns (words_of (codes "A ....")) ≡ Err (record { word = 1; expected = expected.NodeAction })
+  unfolding open_all
+  no_gap = refl
+
   -- a text of three lines, the second of which is empty
   abbrev text : List ℕ
   text = codes "A take" ++ 10 ∷ 10 ∷ codes "B push"
 
   -- its lines have the numbers of lines of the input, the first of which is 5
-  numbered : logs_of txns 2 5 text ≡ Ok (record { number = 5; line = record { choice = Take A; told = None; sent = None } }
-      ∷ record { number = 7; line = record { choice = Push B; told = None; sent = None } } ∷ [])
+  numbered : logs_of txns 4 2 5 text ≡ Ok (record { number = 5; logged = Step (record { choice = Take A; told = None; sent = None }) }
+      ∷ record { number = 7; logged = Step (record { choice = Push B; told = None; sent = None }) } ∷ [])
   unfolding open_all
   numbered = refl
 
   -- the last one is one too many, where there may be one
-  too_many : logs_of txns 1 5 text ≡ Err (record { line = 7; word = 0; expected = expected.FewerLines })
+  too_many : logs_of txns 4 1 5 text ≡ Err (record { line = 7; word = 0; expected = expected.FewerLines })
   unfolding open_all
   too_many = refl
+
+  -- a line and a gap
+  abbrev with_gap : List ℕ
+  with_gap = codes "A take" ++ 10 ∷ codes "A ..."
+
+  -- where a gap counts for four steps, they count for five
+  gap_counts : logs_of txns 4 5 1 with_gap ≡ Ok (record { number = 1; logged = Step (record { choice = Take A; told = None; sent = None }) }
+      ∷ record { number = 2; logged = Gap actor.A } ∷ [])
+  unfolding open_all
+  gap_counts = refl
+
+  -- which is one too many for four
+  gap_too_long : logs_of txns 4 4 1 with_gap ≡ Err (record { line = 2; word = 0; expected = expected.FewerLines })
+  unfolding open_all
+  gap_too_long = refl
 
 -- the logged page is the one that came
 page_told : Tells (told.Waits (Some 3)) (outcome.Waits 3)

@@ -1,7 +1,9 @@
--- The line of a log that words spell: CHOICE, then [ -> OUTCOME ], then [ ! KIND ].
+-- The line of a log that words spell: CHOICE, then [ -> OUTCOME ], then [ ! KIND ]; or ACTOR `...`.
 use Rattle.std.specs.Prelude.{ℕ, ◌-◌, List, codes, length, Option, Some, None, Result, Ok, Err, if◌then◌else◌}
 use Rattle.zy_isa.specs.declared.node.Node.{Node}
 use Rattle.zy_isa.specs.declared.node.Node.TheVariants.{A, B}
+use Rattle.zy_isa.specs.declared.node.Actor.{Actor}
+use Rattle.zy_isa.specs.declared.node.Actor.TheVariants as actor
 use Rattle.zy_isa.specs.declared.choice.Choice.{Choice}
 use Rattle.zy_isa.specs.declared.choice.Choice.TheVariants as choice
 use Rattle.zy_isa.specs.Results.{◌>>=◌}
@@ -9,6 +11,8 @@ use Rattle.zy_model.specs.declared.kind.Kind.{Kind}
 use Rattle.zy_logs.specs.declared.expected.ExpectedInLog.TheVariants as expected
 use Rattle.zy_logs.specs.declared.expected.Misread.{Misread}
 use Rattle.zy_logs.specs.declared.log_line.LogLine.{LogLine}
+use Rattle.zy_logs.specs.declared.log_line.Logged.{Logged}
+use Rattle.zy_logs.specs.declared.log_line.Logged.TheVariants.{Step, Gap}
 use Rattle.zy_logs.specs.declared.told.Told.{Told}
 use Rattle.zy_logs.specs.declared.told.Told.TheVariants as told
 use Rattle.zy_logs.specs.declared.txns.Txns.{Txns}
@@ -119,10 +123,32 @@ whole txns ws = do
   k ← sent_of t.1
   if are_none k.1 then Ok (record { choice = c.0; told = t.0; sent = k.0 }, k.1) else refused expected.End k.1
 
+-- C, A or B
+abbrev pub whose : List Word → Read Actor
+whose ws =
+    if begin_with (codes "C") ws then Ok (actor.C, after ws) else
+    if begin_with (codes "A") ws then Ok (actor.A, after ws) else
+    if begin_with (codes "B") ws then Ok (actor.B, after ws) else
+    refused expected.Actor ws
+
+-- nothing after `...`
+abbrev pub gap_end : Actor → List Word → Read Logged
+gap_end x ws = if are_none ws then Ok (Gap x, ws) else refused expected.EndOfGap ws
+
+-- ACTOR `...`
+abbrev pub gap : List Word → Read Logged
+gap ws = do
+  x ← whose ws
+  gap_end x.0 (after x.1)
+
+-- a gap, where the second word is `...`; else the line of a step
+abbrev pub gap_or_step : Txns → List Word → Read Logged
+gap_or_step txns ws = if begin_with (codes "...") (after ws) then gap ws else made Step (whole txns ws)
+
 -- what was read of `count` words, or the first word that does not fit, by how many come before it
 abbrev pub placed : {T : Type 0} → ℕ → Read T → Result T Misread
 placed count (Ok x) = Ok x.0
 placed count (Err s) = Err (record { word = count - s.left; expected = s.expected })
 
-abbrev pub line_of : Txns → List Word → Result LogLine Misread
-line_of txns ws = placed (length ws) (whole txns ws)
+abbrev pub line_of : Txns → List Word → Result Logged Misread
+line_of txns ws = placed (length ws) (gap_or_step txns ws)

@@ -51,6 +51,8 @@ pub enum ExpectedInLog {
     Message,
     /// The end of the line.
     End,
+    /// The end of the line, after a gap.
+    EndOfGap,
     /// No line: there are as many choices as there may be.
     FewerLines,
 }
@@ -78,6 +80,7 @@ impl ExpectedInLog {
             ExpectedInLog::AfterOutcome => FaultKind::Word,
             ExpectedInLog::Message => FaultKind::Word,
             ExpectedInLog::End => FaultKind::Word,
+            ExpectedInLog::EndOfGap => FaultKind::Word,
         }
     }
 }
@@ -103,8 +106,8 @@ impl fmt::Display for ExpectedInLog {
     fn fmt<W: fmt::Write>(&self, f: &mut fmt::Formatter<W>) -> fmt::Result {
         let words = match self {
             ExpectedInLog::Actor => "a line of a log begins with C, A or B",
-            ExpectedInLog::ClientAction => "after C comes start, begin T or kill T",
-            ExpectedInLog::NodeAction => "after A or B comes run T, take, finish or push",
+            ExpectedInLog::ClientAction => "after C comes start, begin T, kill T or ...",
+            ExpectedInLog::NodeAction => "after A or B comes run T, take, finish, push or ...",
             ExpectedInLog::Txn => "the number or the name of a transaction comes here",
             ExpectedInLog::KnownTxn => "the scenario does not have this transaction",
             ExpectedInLog::AfterChoice =>
@@ -128,8 +131,9 @@ impl fmt::Display for ExpectedInLog {
                 "after ! comes the kind of the message that was sent: wire, ready, dual, pull, page, finish or done"
             }
             ExpectedInLog::End => "nothing comes after the kind of the message that was sent",
+            ExpectedInLog::EndOfGap => "nothing comes after ..., which stands for missing steps",
             ExpectedInLog::FewerLines =>
-                "there are at most 4096 choices, those of the scenario counted",
+                "there are at most 4096 choices, those of the scenario and of the gaps counted",
         };
         f.write_str(words)
     }

@@ -2,9 +2,10 @@
 ghost use Rattle.std.specs.Prelude.{◌≡◌, IfSome, Some};
 ghost use Rattle.std.specs.Bool.{Decides};
 ghost use Rattle.zy_logs.specs.Agrees.{Agrees, Tells};
+ghost use Rattle.zy_logs.specs.Logs.{steps_of};
 
 use crate::told::{Told, tells};
-use zy_isa::Choice;
+use zy_isa::{Actor, Choice};
 use zy_model::Kind;
 use zy_table::{Entry, Outcome};
 
@@ -18,6 +19,15 @@ pub struct LogLine {
     pub told: Option<Told>,
     /// The kind of message that its step sent, if it was logged.
     pub sent: Option<Kind>,
+}
+
+/// What a line of a log says: what was logged of a step, or that steps of an actor may be missing there.
+#[derive(Clone, Copy)]
+pub enum Logged {
+    /// A step.
+    Step(LogLine),
+    /// A gap in the log of this actor, which stands for any of its steps, or none.
+    Gap(Actor),
 }
 
 /// Whether an outcome is what was logged, if anything was.
@@ -37,6 +47,18 @@ fn is_sent(logged: Option<Kind>, came: Option<Kind>) -> bool
     match logged {
         Some(kind) => came == Some(kind),
         None => true,
+    }
+}
+
+impl Logged {
+    /// How many steps it counts for, where a gap counts for `gap`.
+    pub fn steps(self, gap: usize) -> usize
+        ensures { result ≡ steps_of gap self }
+    {
+        match self {
+            Logged::Step(_) => 1,
+            Logged::Gap(_) => gap,
+        }
     }
 }
 

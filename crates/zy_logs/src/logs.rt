@@ -8,38 +8,37 @@ ghost use Rattle.zy_logs.specs.Logs.{Reads, TakesLine};
 
 use crate::expected::ExpectedInLog;
 use crate::faults::{LogFault, LogLineFault};
-use crate::log_line::LogLine;
+use crate::log_line::Logged;
 use crate::reading::read_line;
 use crate::text::{first_line, words_of};
 use crate::txns::Txns;
 use std::alloc::Global;
 
-/// A line of a log, and the number of the line of the input that it is.
+/// What a line of a log says, and the number of the line of the input that it is.
 #[derive(Clone, Copy)]
 pub struct NumberedLine {
     pub number: usize,
-    pub line: LogLine,
+    pub logged: Logged,
 }
 
-/// The line of a log that the words of line `number` spell, if there are words. There may be `most` lines, and `taken` come
-/// before it.
+/// What the words of line `number` say, if there are words. A gap counts for `gap` steps, and there is room for `left`.
 fn line_at(
     txns: Txns<'_>,
-    most: usize,
-    taken: usize,
+    gap: usize,
+    left: usize,
     number: usize,
     words: &[&[u8]],
 ) -> Result<Option<NumberedLine>, LogLineFault>
     requires { txns.count ≤ max_txns }
-    ensures { result ≡ spec.line_at txns.entry most taken number (texts words.now) }
+    ensures { result ≡ spec.line_at txns.entry gap left number (texts words.now) }
 {
     if words.is_empty() {
         return Ok(None);
     }
     match read_line(txns, words) {
-        Ok(line) => {
-            if taken < most {
-                Ok(Some(NumberedLine { number, line }))
+        Ok(logged) => {
+            if logged.steps(gap) <= left {
+                Ok(Some(NumberedLine { number, logged }))
             } else {
                 Err(LogLineFault {
                     line: number,
@@ -56,44 +55,50 @@ fn line_at(
     }
 }
 
-/// Adds the line of a log that line `number` of a text is, if it has words. There may be `most`.
+/// Adds what line `number` of a text says, if it has words, and answers how many steps there is room for then. A gap counts
+/// for `gap`, and there is room for `left`.
 fn take(
     alloc: Global,
     txns: Txns<'_>,
-    most: usize,
+    gap: usize,
+    left: usize,
     lines: &mut Vec<NumberedLine>,
     number: usize,
     line: &[u8],
-) -> Result<(), LogFault>
+) -> Result<usize, LogFault>
     requires { txns.count ≤ max_txns }
-    ensures { TakesLine result lines.old.items lines.new.items (spec.line_at txns.entry most (length lines.old.items) number
+    ensures { TakesLine gap left result lines.old.items lines.new.items (spec.line_at txns.entry gap left number
         (text_words.words_of line.now)) }
 {
     let words = words_of(alloc, line)?;
-    if let Some(line) = line_at(txns, most, lines.len(), number, &words)? {
-        lines.push(line).map_err(|_| LogFault::Memory)?;
-    }
-    Ok(())
+    let Some(line) = line_at(txns, gap, left, number, &words)? else {
+        return Ok(left);
+    };
+    lines.push(line).map_err(|_| LogFault::Memory)?;
+    Ok(left.saturating_sub(line.logged.steps(gap)))
 }
 
-/// The lines of logs of a text, whose first line has number `first`: at most `most`, each with its number.
+/// What the lines of logs of a text say, whose first line has number `first`, each with its number. A gap counts for `gap`
+/// steps, and all count for at most `most`.
 pub fn read_logs(
     alloc: Global,
     txns: Txns<'_>,
+    gap: usize,
     most: usize,
     first: usize,
     text: &[u8],
 ) -> Result<Vec<NumberedLine>, LogFault>
     requires few { txns.count ≤ max_txns }
     requires numbers { first + length text.now < 2 ^ 64 }
-    ensures { Reads result (spec.logs_of txns.entry most first text.now) }
+    ensures { Reads result (spec.logs_of txns.entry gap most first text.now) }
 {
     let mut lines = Vec::new(alloc);
     let mut rest = text;
     let mut number = first;
+    let mut left = most;
     while !rest.is_empty() {
         let (line, below) = first_line(rest);
-        take(alloc, txns, most, &mut lines, number, line)?;
+        left = take(alloc, txns, gap, left, &mut lines, number, line)?;
         rest = below;
         number += 1;
     }

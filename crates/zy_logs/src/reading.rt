@@ -13,9 +13,9 @@ mod parts;
 mod words;
 
 use crate::expected::{ExpectedInLog, Misread};
-use crate::log_line::LogLine;
+use crate::log_line::{LogLine, Logged};
 use crate::possible::can_give;
-use crate::reading::choices::choice;
+use crate::reading::choices::{choice, whose};
 use crate::reading::cursor::{LogCursor, Parsed};
 use crate::reading::outcomes::outcome;
 use crate::reading::words::kind;
@@ -98,13 +98,37 @@ fn whole<'a>(txns: Txns<'a>, at: LogCursor<'a>) -> Parsed<'a, LogLine>
     Ok((LogLine { choice, told, sent }, at))
 }
 
-/// The line of a log that words spell.
-pub fn read_line(txns: Txns<'_>, words: &[&[u8]]) -> Result<LogLine, Misread>
+/// What a line says whose second word is `...`: whose log has a gap.
+fn gap<'a>(at: LogCursor<'a>) -> Parsed<'a, Logged>
+    ensures { read result ≡ spec.gap (left at.entry) }
+{
+    let (actor, at) = whose(at)?;
+    let at = at.next();
+    if !at.is_end() {
+        return Err(at.refuses(ExpectedInLog::EndOfGap));
+    }
+    Ok((Logged::Gap(actor), at))
+}
+
+/// What the line that begins with the word at hand says.
+fn gap_or_step<'a>(txns: Txns<'a>, at: LogCursor<'a>) -> Parsed<'a, Logged>
+    requires { txns.count ≤ max_txns }
+    ensures { read result ≡ spec.gap_or_step txns.entry (left at.entry) }
+{
+    if at.next().is_at(b"...") {
+        return gap(at);
+    }
+    let (line, at) = whole(txns, at)?;
+    Ok((Logged::Step(line), at))
+}
+
+/// What a line of a log says, by its words.
+pub fn read_line(txns: Txns<'_>, words: &[&[u8]]) -> Result<Logged, Misread>
     requires { txns.count ≤ max_txns }
     ensures { result ≡ spec.line_of txns.entry (texts words.now) }
 {
-    match whole(txns, LogCursor::new(words)) {
-        Ok((line, _)) => Ok(line),
+    match gap_or_step(txns, LogCursor::new(words)) {
+        Ok((logged, _)) => Ok(logged),
         Err(stop) => Err(Misread {
             word: words.len().saturating_sub(stop.left),
             expected: stop.expected,

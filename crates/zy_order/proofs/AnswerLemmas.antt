@@ -1,122 +1,167 @@
 -- What is answered of the ways along the logs is answered of the orders of the lines.
-use Rattle.std.proofs.Common.{◌≡◌, ◌∙◌, List, [], ◌++◌, length, refl, sym, ap, subst, arith, drop, append-nil}
-use Rattle.std.proofs.lemmas.List.{drop_all}
+use Rattle.std.proofs.Common.{◌≡◌, ◌∙◌, ℕ, ◌+◌, List, length, refl, sym, ap, subst, arith}
 use Rattle.zy_isa.specs.declared.node.Actor.{Actor}
 use Rattle.zy_isa.specs.declared.node.Actor.TheVariants.{C, A, B}
 use Rattle.zy_isa.specs.declared.choice.Choice.{Choice}
 use Rattle.zy_machine.specs.Histories.{History}
 use Rattle.zy_logs.specs.declared.log_line.LogLine.{LogLine}
 use Rattle.zy_order.specs.declared.logs.Logs.{Logs}
+use Rattle.zy_order.specs.declared.gaps.Gaps.{Gaps}
+use Rattle.zy_order.specs.declared.cursors.Cursors.{Cursors}
 use Rattle.zy_order.specs.declared.plan.Plan.{Plan}
 use Rattle.zy_order.specs.declared.answer.OrderAnswer.{OrderAnswer}
 use Rattle.zy_order.specs.declared.answer.OrderAnswer.TheVariants.{Found, Nowhere, Spent}
-use Rattle.zy_order.specs.Orders.{lines_of, choices_of, IsMerge, IsPrefix, IsPrefixOrder}
-use Rattle.zy_order.specs.Ways.{log_of, cursor, at_start, of_nodes, IsNoFurther, AreMatched, IsWay, cursors_after, AreLogs}
-use Rattle.zy_order.specs.Answers.{node_lines, client_lines, MatchesAll, MatchesPrefixes, MatchesFurthest, IsNowhere, IsAnswer}
+use Rattle.zy_order.specs.Gaps.{gaps_of, Completes}
+use Rattle.zy_order.specs.Orders.{lines_of, all_of, choices_of, Merges, IsPrefixOrder, IsOrder}
+use Rattle.zy_order.specs.Ways.{log_of, cursor_of, cursor, at_start, IsNoFurther, AreMatched, IsWay, AreLogs}
+use Rattle.zy_order.specs.Answers.{MatchesAll, MatchesPrefixes, MatchesFurthest, IsNowhere, IsAnswer}
 use Rattle.zy_order.specs.Reaches.{AnswersFor}
-use Rattle.zy_order.proofs.OrderLemmas.{order_of, way_of, cursor_after}
+use Rattle.zy_order.proofs.GapLemmas.{Ahead, ahead_start, ahead_whole}
+use Rattle.zy_order.proofs.WayLemmas.{HaveGaps, within_start}
+use Rattle.zy_order.proofs.OrderLemmas.{IsAhead, order_of, way_of}
 use Rattle.zy_order.proofs.LineLemmas.{log_is}
 
--- from the start all lines are left
-from_start : (x : Actor) (l : Logs) → drop (cursor x at_start) (log_of x l) ≡ log_of x l
-from_start C l = refl
-from_start A l = refl
-from_start B l = refl
+-- ---- one log, from its start
 
--- a merge is of prefixes
-merge_prefixes : (order lines : List LogLine) → IsMerge order lines → (x : Actor) → IsPrefix (lines_of x order) (lines_of x lines)
-merge_prefixes order lines merge C = ([], sym merge.of_c ∙ sym (append-nil _))
-merge_prefixes order lines merge A = ([], sym merge.of_a ∙ sym (append-nil _))
-merge_prefixes order lines merge B = ([], sym merge.of_b ∙ sym (append-nil _))
+-- what completes the first lines of an actor's log is ahead of the start
+from_start : (count : ℕ) (x : Actor) (l : Logs) (to : Cursors) (lines : List LogLine)
+    → Completes count x (cursor x to) (log_of x l) (gaps_of x l.gaps) lines → IsAhead count l at_start to x lines
+from_start count C l to lines c = ahead_start count C l.c.items l.gaps.c.items to.c.lines lines c
+from_start count A l to lines c = ahead_start count A l.a.items l.gaps.a.items to.a.lines lines c
+from_start count B l to lines c = ahead_start count B l.b.items l.gaps.b.items to.b.lines lines c
 
--- all lines are matched after the choices of a merge
-merge_matched : (order lines : List LogLine) (l : Logs) → AreLogs lines l → IsMerge order lines → AreMatched l (cursors_after at_start (choices_of order))
-merge_matched order lines l is merge = record {
-  of_c = omega (arith, cursor_after C order at_start, ap length merge.of_c, ap length is.of_c);
-  of_a = omega (arith, cursor_after A order at_start, ap length merge.of_a, ap length is.of_a);
-  of_b = omega (arith, cursor_after B order at_start, ap length merge.of_b, ap length is.of_b);
+-- the other way
+to_whole : (count : ℕ) (x : Actor) (l : Logs) (to : Cursors) (lines : List LogLine) → IsAhead count l at_start to x lines
+    → Completes count x (cursor x to) (log_of x l) (gaps_of x l.gaps) lines
+to_whole count C l to lines a = ahead_whole count C l.c.items l.gaps.c.items to.c.lines lines a
+to_whole count A l to lines a = ahead_whole count A l.a.items l.gaps.a.items to.a.lines lines a
+to_whole count B l to lines a = ahead_whole count B l.b.items l.gaps.b.items to.b.lines lines a
+
+-- cursors that have taken these numbers of lines
+abbrev cursors_with : (Actor → ℕ) → Cursors
+cursors_with taken = record {
+  c = record { lines = taken C; missing = 0 };
+  a = record { lines = taken A; missing = 0 };
+  b = record { lines = taken B; missing = 0 };
 }
 
--- as many lines of A and B are matched after the choices of lines as there are among them
-nodes_matched : (order : List LogLine) → of_nodes (cursors_after at_start (choices_of order)) ≡ node_lines order
-nodes_matched order = omega (arith, cursor_after A order at_start, cursor_after B order at_start)
+-- they have
+lines_with : (x : Actor) (taken : Actor → ℕ) → cursor x (cursors_with taken) ≡ taken x
+lines_with C taken = refl
+lines_with A taken = refl
+lines_with B taken = refl
 
--- so are lines of the client
-client_matched : (order : List LogLine) → (cursors_after at_start (choices_of order)).c ≡ client_lines order
-client_matched order = omega (arith, cursor_after C order at_start)
+-- ---- all three
 
-module _ (h : History) (lines : List LogLine) (l : Logs) (is : AreLogs lines l) where
-  -- a way matches prefixes of the logs
-  matches_prefixes : (cs : List Choice) → IsWay h.scenario l at_start h.state cs → MatchesPrefixes h lines cs
-  matches_prefixes cs way =
-      let order = order_of h.scenario l at_start h.state cs way in (
-        order.0,
+module _ (h : History) (lines : List LogLine) (gaps : Gaps) (l : Logs) (is : AreLogs lines gaps l) (many : HaveGaps l) where
+  -- the numbers of a scenario's transactions are below this
+  abbrev count : ℕ
+  count = length h.scenario.programs
+
+  -- completions are of the lines and gaps where they are of the logs
+  of_lines : (x : Actor) (k : ℕ) (order : List LogLine) → Completes count x k (log_of x l) (gaps_of x l.gaps) order
+      → Completes count x k (lines_of x lines) (gaps_of x gaps) order
+  of_lines x k order c =
+      subst (λ (g : Gaps). Completes count x k (lines_of x lines) (gaps_of x g) order) is.of_gaps
+      (subst (λ (ls : List LogLine). Completes count x k ls (gaps_of x l.gaps) order) (log_is x lines gaps l is) c)
+
+  -- the other way
+  of_logs : (x : Actor) (k : ℕ) (order : List LogLine) → Completes count x k (lines_of x lines) (gaps_of x gaps) order
+      → Completes count x k (log_of x l) (gaps_of x l.gaps) order
+  of_logs x k order c =
+      subst (λ (ls : List LogLine). Completes count x k ls (gaps_of x l.gaps) order) (sym (log_is x lines gaps l is))
+      (subst (λ (g : Gaps). Completes count x k (lines_of x lines) (gaps_of x g) order) (sym is.of_gaps) c)
+
+  -- the choices of a way are those of an order of prefixes, which takes as many lines as the way matches
+  order_by : (cs : List Choice) (to : Cursors) → IsWay h.scenario l at_start h.state cs to
+      → (order : List LogLine) × IsPrefixOrder h.scenario h.state lines gaps (λ x. cursor x to) order × (cs ≡ choices_of order)
+  order_by cs to way =
+      let found = order_of h.scenario l at_start to h.state cs many (within_start l) way in (
+        found.0,
         record {
-          prefixes = λ x. (
-            drop (cursor x (cursors_after at_start cs)) (log_of x l),
-            sym (log_is x lines l is) ∙ (sym (from_start x l) ∙ order.1 x),
-          );
-          fits = order.2;
+          merges = λ x. of_lines x (cursor x to) (lines_of x found.0) (to_whole count x l to (lines_of x found.0) (found.1.ahead x));
+          fits = found.1.fits;
         },
-        order.3,
+        found.1.choices,
       )
 
-  -- one to the end of the logs matches all lines
-  matches_all : (cs : List Choice) → IsWay h.scenario l at_start h.state cs → AreMatched l (cursors_after at_start cs) → MatchesAll h lines cs
-  matches_all cs way end =
-      let order = order_of h.scenario l at_start h.state cs way in
-      let to = cursors_after at_start cs in
-      let none_left : (x : Actor) → cursor x to ≡ length (log_of x l) → drop (cursor x to) (log_of x l) ≡ [] = λ x e.
-      drop_all (cursor x to) (log_of x l) (omega (arith, e)) in
-      let whole : (x : Actor) → cursor x to ≡ length (log_of x l) → lines_of x order.0 ≡ lines_of x lines = λ x e.
-      sym (append-nil _) ∙ (ap (λ left. lines_of x order.0 ++ left) (sym (none_left x e)) ∙ (sym (order.1 x) ∙ (from_start x l ∙ log_is x lines l is))) in (
-        order.0,
-        record { merge = record { of_c = whole C end.of_c; of_a = whole A end.of_a; of_b = whole B end.of_b }; fits = order.2 },
-        order.3,
-      )
+  -- so it matches prefixes of the logs
+  matches_prefixes : (cs : List Choice) (to : Cursors) → IsWay h.scenario l at_start h.state cs to → MatchesPrefixes h lines gaps cs
+  matches_prefixes cs to way = let found = order_by cs to way in ((λ x. cursor x to), found.0, found.1, found.2)
 
-  -- the choices of an order of prefixes are a way
-  way_by : (order : List LogLine) → IsPrefixOrder h.scenario h.state lines order → IsWay h.scenario l at_start h.state (choices_of order)
-  way_by order o =
-      way_of h.scenario l at_start h.state order (λ x. ((o.prefixes x).0, from_start x l ∙ (log_is x lines l is ∙ (o.prefixes x).1))) o.fits
+  -- where all lines are matched, as many are as each actor has
+  all_taken : (to : Cursors) → AreMatched l to → (x : Actor) → cursor x to ≡ all_of lines x
+  all_taken to end C = end.of_c ∙ ap (λ (ls : List LogLine). length ls) is.of_c
+  all_taken to end A = end.of_a ∙ ap (λ (ls : List LogLine). length ls) is.of_a
+  all_taken to end B = end.of_b ∙ ap (λ (ls : List LogLine). length ls) is.of_b
+
+  -- an order of prefixes that takes other numbers of lines, which are the same
+  taken_same : (taken others : Actor → ℕ) (order : List LogLine) → ((x : Actor) → taken x ≡ others x)
+      → IsPrefixOrder h.scenario h.state lines gaps taken order → IsPrefixOrder h.scenario h.state lines gaps others order
+  taken_same taken others order same o = record {
+    merges = λ x. subst (λ (k : ℕ). Completes count x k (lines_of x lines) (gaps_of x gaps) (lines_of x order)) (same x) (o.merges x);
+    fits = o.fits;
+  }
+
+  -- so a way to the end of the logs matches all lines
+  matches_all : (cs : List Choice) (to : Cursors) → IsWay h.scenario l at_start h.state cs to → AreMatched l to → MatchesAll h lines gaps cs
+  matches_all cs to way end =
+      let found = order_by cs to way in
+      (found.0, taken_same (λ x. cursor x to) (all_of lines) found.0 (all_taken to end) found.1, found.2)
+
+  -- the choices of an order of prefixes are a way, which matches as many lines as the order takes
+  way_by : (taken : Actor → ℕ) (order : List LogLine) → IsPrefixOrder h.scenario h.state lines gaps taken order
+      → (end : Cursors) × IsWay h.scenario l at_start h.state (choices_of order) end × ((x : Actor) → cursor x end ≡ taken x)
+  way_by taken order o =
+      let to = cursors_with taken in
+      let ahead : (x : Actor) → IsAhead count l at_start to x (lines_of x order) = λ x.
+      from_start count x l to (lines_of x order)
+      (of_logs x (cursor x to) (lines_of x order)
+      (subst (λ (k : ℕ). Completes count x k (lines_of x lines) (gaps_of x gaps) (lines_of x order)) (sym (lines_with x taken)) (o.merges x))) in
+      let found = way_of h.scenario l at_start to h.state order ahead o.fits in
+      (found.end, found.way, λ x. found.lines x ∙ lines_with x taken)
+
+  -- an order of all lines is a way to the end of the logs
+  end_by : (order : List LogLine) (end : Cursors) → ((x : Actor) → cursor x end ≡ all_of lines x) → AreMatched l end
+  end_by order end all = record {
+    of_c = all C ∙ ap (λ (ls : List LogLine). length ls) (sym is.of_c);
+    of_a = all A ∙ ap (λ (ls : List LogLine). length ls) (sym is.of_a);
+    of_b = all B ∙ ap (λ (ls : List LogLine). length ls) (sym is.of_b);
+  }
 
   -- where no way leads further than one, it has the choices of a furthest order of prefixes
-  matches_furthest : (cs : List Choice) → IsWay h.scenario l at_start h.state cs
-      → ((ds : List Choice) → IsWay h.scenario l at_start h.state ds → IsNoFurther (cursors_after at_start ds) (cursors_after at_start cs))
-      → MatchesFurthest h lines cs
-  matches_furthest cs way most =
-      let found = matches_prefixes cs way in
-      let order = found.0 in
-      let nodes : of_nodes (cursors_after at_start cs) ≡ node_lines order =
-      ap (λ (ds : List Choice). of_nodes (cursors_after at_start ds)) found.2 ∙ nodes_matched order in
-      let client : (cursors_after at_start cs).c ≡ client_lines order =
-      ap (λ (ds : List Choice). (cursors_after at_start ds).c) found.2 ∙ client_matched order in (
-        order,
+  matches_furthest : (cs : List Choice) (to : Cursors) → IsWay h.scenario l at_start h.state cs to
+      → ((ds : List Choice) → (end : Cursors) → IsWay h.scenario l at_start h.state ds end → IsNoFurther end to)
+      → MatchesFurthest h lines gaps cs
+  matches_furthest cs to way most =
+      let found = order_by cs to way in (
+        (λ x. cursor x to),
+        found.0,
         record {
           prefix = found.1;
-          nodes = λ other o.
-              let no_further = most (choices_of other) (way_by other o) in
-              omega (arith, no_further.nodes, nodes_matched other, nodes);
-          client = λ other o e.
-              let no_further = most (choices_of other) (way_by other o) in
-              let as_many : of_nodes (cursors_after at_start (choices_of other)) ≡ of_nodes (cursors_after at_start cs) =
-              nodes_matched other ∙ (e ∙ sym nodes) in
-              omega (arith, no_further.client as_many, client_matched other, client);
+          nodes = λ others other o.
+              let by = way_by others other o in
+              let no_further = most (choices_of other) by.0 by.1 in
+              omega (arith, no_further.nodes, by.2 A, by.2 B);
+          client = λ others other o e.
+              let by = way_by others other o in
+              let no_further = most (choices_of other) by.0 by.1 in
+              omega (arith, no_further.client (omega (arith, e, by.2 A, by.2 B)), by.2 C);
         },
         found.2,
       )
 
--- so each answer that holds of the ways of a plan holds of the orders of its lines
-pub answers : (p : Plan) (h : History) (lines : List LogLine) (a : OrderAnswer) → p.start ≡ h → AreLogs lines p.logs → AnswersFor p a → IsAnswer h lines a
-answers p h lines (Found v) same is x =
-    subst (λ (k : History). MatchesAll k lines v.items) same (matches_all p.start lines p.logs is v.items x.0 x.1)
-answers p h lines (Nowhere v) same is x =
-    subst (λ (k : History). IsNowhere k lines v.items) same (record {
+-- so each answer that holds of the ways of a plan holds of the orders of its logs
+pub answers : (p : Plan) (h : History) (lines : List LogLine) (gaps : Gaps) (a : OrderAnswer) → p.start ≡ h → AreLogs lines gaps p.logs
+    → HaveGaps p.logs → AnswersFor p a → IsAnswer h lines gaps a
+answers p h lines gaps (Found v) same is many x =
+    subst (λ (k : History). MatchesAll k lines gaps v.items) same (matches_all p.start lines gaps p.logs is many v.items x.0 x.1 x.2)
+answers p h lines gaps (Nowhere v) same is many x =
+    subst (λ (k : History). IsNowhere k lines gaps v.items) same (record {
       none = λ order o.
-          let prefixes = merge_prefixes order lines o.merge in
-          let way = way_by p.start lines p.logs is order (record { prefixes = prefixes; fits = o.fits }) in
-          x.none (choices_of order) way (merge_matched order lines p.logs is o.merge);
-      furthest = matches_furthest p.start lines p.logs is v.items x.way x.most;
+          let by = way_by p.start lines gaps p.logs is many (all_of lines) order o in
+          x.1.none (choices_of order) by.0 by.1 (end_by p.start lines gaps p.logs is many order by.0 by.2);
+      furthest = matches_furthest p.start lines gaps p.logs is many v.items x.0 x.1.way x.1.most;
     })
-answers p h lines (Spent v) same is x =
-    subst (λ (k : History). MatchesPrefixes k lines v.items) same (matches_prefixes p.start lines p.logs is v.items x)
+answers p h lines gaps (Spent v) same is many x =
+    subst (λ (k : History). MatchesPrefixes k lines gaps v.items) same (matches_prefixes p.start lines gaps p.logs is many v.items x.0 x.1)

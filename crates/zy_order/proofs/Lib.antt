@@ -1,3 +1,5 @@
+pub mod GapLemmas
+pub mod NeedLemmas
 pub mod WayLemmas
 pub mod OrderLemmas
 pub mod LineLemmas

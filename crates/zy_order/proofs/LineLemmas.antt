@@ -10,10 +10,13 @@ use Rattle.zy_threads.specs.Turns.{is_c, is_a, is_b}
 use Rattle.zy_logs.specs.declared.log_line.LogLine.{LogLine}
 use Rattle.zy_order.specs.declared.logs.Logs.{Logs}
 use Rattle.zy_order.specs.declared.plan.Plan.{Plan}
+use Rattle.zy_order.specs.declared.gaps.Gaps.{Gaps}
+use Rattle.zy_search.specs.Choices.{considered}
 use Rattle.zy_order.specs.Orders.{lines_of, choices_of}
 use Rattle.zy_order.specs.Ways.{log_of, line_count, AreLinesOf, AreLogs}
 use Rattle.zy_order.specs.Answers.{IsInput}
-use Rattle.zy_order.specs.Reaches.{IsPlan}
+use Rattle.zy_order.specs.Gaps.{gaps_of, gap_count}
+use Rattle.zy_order.specs.Reaches.{IsPlan, all_kinds}
 use Rattle.zy_order.proofs.OrderLemmas.{is_same, lines_cons}
 
 -- ---- how many
@@ -44,16 +47,16 @@ lines_lengths (line ∷ lines) =
     (λ i. l i + (m i + n i)) ∙ all ∙ omega arith
 
 -- so do the logs
-pub logs_count : (lines : List LogLine) (l : Logs) → AreLogs lines l → line_count l ≡ length lines
-logs_count lines l is = omega (arith, lines_lengths lines, ap length is.of_c, ap length is.of_a, ap length is.of_b)
+pub logs_count : (lines : List LogLine) (gaps : Gaps) (l : Logs) → AreLogs lines gaps l → line_count l ≡ length lines
+logs_count lines gaps l is = omega (arith, lines_lengths lines, ap length is.of_c, ap length is.of_a, ap length is.of_b)
 
 -- ---- of which choices
 
 -- the log of an actor is its lines
-pub log_is : (x : Actor) (lines : List LogLine) (l : Logs) → AreLogs lines l → log_of x l ≡ lines_of x lines
-log_is C lines l is = is.of_c
-log_is A lines l is = is.of_a
-log_is B lines l is = is.of_b
+pub log_is : (x : Actor) (lines : List LogLine) (gaps : Gaps) (l : Logs) → AreLogs lines gaps l → log_of x l ≡ lines_of x lines
+log_is C lines gaps l is = is.of_c
+log_is A lines gaps l is = is.of_a
+log_is B lines gaps l is = is.of_b
 
 -- actors that are the same by the test are
 same_actor : (x y : Actor) → is_same x y ≡ true → y ≡ x
@@ -85,12 +88,24 @@ lines_are_of count x (line ∷ lines) named =
     (lines_more count x line (lines_of x lines) (is_same x (actor_of line.choice)) (λ e. (same_actor x (actor_of line.choice) e, named.0))
     (lines_are_of count x lines named.1))
 
--- a plan has logs of the lines, and its history has room for all
-pub plan_is : (p : Plan) (h : History) (lines : List LogLine) → p.start ≡ h → AreLogs lines p.logs → IsInput h lines → IsPlan p
-plan_is p h lines same is input =
+-- a plan has logs of the lines, and its history has room for all steps
+pub plan_is : (p : Plan) (h : History) (lines : List LogLine) (gaps : Gaps) → p.start ≡ h → AreLogs lines gaps p.logs → IsInput h lines gaps
+    → p.choices.items ≡ considered all_kinds (length h.scenario.programs)
+    → IsPlan p
+plan_is p h lines gaps same is input choices =
     let count = length p.start.scenario.programs in
     let named = subst (λ (k : History). AreNamed (length k.scenario.programs) (choices_of lines)) (sym same) input.named in
     record {
-      lines = λ x. subst (AreLinesOf count x) (sym (log_is x lines p.logs is)) (lines_are_of count x lines named);
-      room = omega (arith, input.room, logs_count lines p.logs is, ap (λ (k : History). length k.entries) same);
+      lines = λ x. subst (AreLinesOf count x) (sym (log_is x lines gaps p.logs is)) (lines_are_of count x lines named);
+      gaps = λ x.
+          ap (λ (g : Gaps). length (gaps_of x g)) is.of_gaps ∙ (input.gaps x
+          ∙ ap (λ (ls : List LogLine). length ls + 1) (sym (log_is x lines gaps p.logs is)));
+      room = omega (
+        arith,
+        input.room,
+        logs_count lines gaps p.logs is,
+        ap gap_count is.of_gaps,
+        ap (λ (k : History). length k.entries) same,
+      );
+      choices = choices ∙ ap (λ (k : History). considered all_kinds (length k.scenario.programs)) (sym same);
     }

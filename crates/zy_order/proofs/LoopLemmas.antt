@@ -1,29 +1,35 @@
 -- One path after another is followed.
-use Rattle.std.proofs.Common.{◌≡◌, ◌∙◌, ℕ, ◌<◌, inl, inr, List, [], ◌∷◌, ◌++◌, length, sym, ap, subst, arith}
+use Rattle.std.proofs.Common.{◌≡◌, ◌∙◌, ℕ, ◌<◌, ◌≤◌, inl, inr, List, [], ◌∷◌, ◌++◌, length, refl, ◌+◌, Bool, ◌&&◌, sym, ap, subst, arith, true, get_or}
 use Rattle.std.proofs.Common.{Option, None, Some, Result, Ok, Err, OnOk, IfOk}
 use Rattle.std.specs.Prelude.{Contains, IsSome, option_to_list}
 use Rattle.std.proofs.Math.Bool.{false≢true}
 use Rattle.std.proofs.lemmas.Bool.{cases_lt}
 use Rattle.std.proofs.lemmas.List.Elements.{Contains-append_left, Contains-push, Contains-push_cases}
 use Rattle.zy_isa.specs.declared.choice.Choice.{Choice}
+use Rattle.zy_isa.specs.declared.choice.Choice.TheVariants.{Start, Begin, Kill, Run, Take, Finish, Push}
+use Rattle.zy_isa.specs.Choices.{names_below}
 use Rattle.zy_machine.specs.Histories.{History}
 use Rattle.zy_search.specs.Visits.{path_at}
+use Rattle.zy_search.specs.Choices.{is_considered, considered}
 use Rattle.zy_search.specs.declared.shelf.Shelf.{Shelf}
+use Rattle.zy_search.proofs.ChoiceLemmas.{has_considered}
+use Rattle.zy_search.proofs.MeetLemmas.{is_one}
+use Rattle.zy_search.proofs.SearchLemmas.{named_if}
 use Rattle.zy_order.specs.declared.logs.Logs.{Logs}
 use Rattle.zy_order.specs.declared.cursors.Cursors.{Cursors}
 use Rattle.zy_order.specs.declared.plan.Plan.{Plan}
 use Rattle.zy_order.specs.declared.reached.Reached.{Reached}
 use Rattle.zy_order.specs.declared.turns.Turns.{Turns}
 use Rattle.zy_order.specs.Ways.{cursors_in, AreMatched}
-use Rattle.zy_order.specs.Reaches.{cursors_at, IsReached, IsMet, IsExpanded, IsFollowed, AreFollowedBut, HasEachActor}
+use Rattle.zy_order.specs.Reaches.{all_kinds, cursors_at, IsReached, Extends, IsMet, AreMet, IsTried, AreTried, IsFollowed, AreFollowedBut, HasEachActor}
 use Rattle.zy_order.specs.Reaches.{Adds, IsTaken, IsWayOf}
-use Rattle.zy_order.proofs.ReachLemmas.{cursors_grown, followed_grown}
+use Rattle.zy_order.proofs.ReachLemmas.{extends_same, tried_on, followed_on}
 
 -- ---- what is to do
 
 -- where only the empty path is reached, it alone is to do
-pub first_to_do : (h : History) (l : Logs) (ps : List (List Choice)) (todo : List ℕ) → ps ≡ [] ∷ [] → todo ≡ 0 ∷ [] → AreFollowedBut h l ps todo
-first_to_do h l ps todo e f = λ i lt.
+pub first_to_do : (h : History) (l : Logs) (r : Reached) (todo : List ℕ) → r.visited ≡ [] ∷ [] → todo ≡ 0 ∷ [] → AreFollowedBut h l r todo
+first_to_do h l r todo e f = λ i lt.
     let one = ap (λ (qs : List (List Choice)). length qs) e in
     let same : 0 ≡ i = omega (arith, lt, one) in
     inl (subst (Contains todo) same (subst (λ (t : List ℕ). Contains t 0) (sym f) (Contains-push [] 0)))
@@ -33,6 +39,10 @@ module _ (p : Plan) (r new : Reached) (o : Option ℕ) (is : IsReached p r) (e :
   -- a path was reached before the last place to do was taken
   old : (i : ℕ) → i < length new.visited → i < length r.visited
   old i lt = subst (λ (ps : List (List Choice)). i < length ps) paths lt
+
+  -- its cursors are where they were
+  same_cursors : (i : ℕ) → cursors_at new i ≡ cursors_at r i
+  same_cursors i = ap (λ (l : List Cursors). cursors_in l i) cursors
 
   -- a place that is still to do was to do before
   still : (i : ℕ) → Contains new.todo.items i → Contains r.todo.items i
@@ -44,66 +54,123 @@ module _ (p : Plan) (r new : Reached) (o : Option ℕ) (is : IsReached p r) (e :
     some = rw paths is.some;
     few = rw paths is.few;
     first = ap (λ (ps : List (List Choice)). path_at ps 0) paths ∙ is.first;
-    ways = λ i lt. subst (λ (ps : List (List Choice)). IsWayOf p (path_at ps i)) (sym paths) (is.ways i (old i lt));
+    start = same_cursors 0 ∙ is.start;
+    ways = λ i lt.
+        subst (λ (g : Cursors). IsWayOf p (path_at new.visited i) g) (sym (same_cursors i))
+        (subst (λ (ps : List (List Choice)). IsWayOf p (path_at ps i) (cursors_at r i)) (sym paths) (is.ways i (old i lt)));
     many = ap (λ (l : List Cursors). length l) cursors ∙ (is.many ∙ ap (λ (ps : List (List Choice)). length ps) (sym paths));
-    kept = λ i lt.
-        ap (λ (l : List Cursors). cursors_in l i) cursors ∙ (is.kept i (old i lt) ∙ ap (λ (ps : List (List Choice)). cursors_at ps i) (sym paths));
     there = λ i left. subst (λ (ps : List (List Choice)). i < length ps) (sym paths) (is.there i (still i left));
   }
 
+  -- what was followed still is
+  pub taken_followed : (i : ℕ) → i < length r.visited → IsFollowed p.start p.logs r i → IsFollowed p.start p.logs new i
+  taken_followed i lt done = followed_on p.start p.logs r new i (extends_same r new paths cursors) lt done
+
 -- where the last place to do was taken, each path but it and those that are still to do was followed; where none was to do, each was
-pub taken : (p : Plan) (r new : Reached) (o : Option ℕ) → IsReached p r → AreFollowedBut p.start p.logs r.visited r.todo.items
+pub taken : (p : Plan) (r new : Reached) (o : Option ℕ) → IsReached p r → AreFollowedBut p.start p.logs r r.todo.items
     → r.todo.items ≡ new.todo.items ++ option_to_list o → (0 < length r.todo.items → IsSome o) → new.visited ≡ r.visited
-    → IsTaken p new o
-taken p r new None is followed e some paths =
-    subst (λ (ps : List (List Choice)). (i : ℕ) → i < length ps → IsFollowed p.start p.logs ps i) (sym paths) (λ i lt.
-    elim (followed i lt) [
+    → new.cursors.items ≡ r.cursors.items → IsTaken p new o
+taken p r new None is followed e some paths cursors = λ i lt.
+    let was = old p r new None is e paths cursors i lt in
+    elim (followed i was) [
       | inl here ↦ absurd (false≢true (some (omega (arith, here.1))))
-      | inr done ↦ done
-    ])
-taken p r new (Some at) is followed e some paths =
+      | inr done ↦ taken_followed p r new None is e paths cursors i was done
+    ]
+taken p r new (Some at) is followed e some paths cursors =
     let here : Contains r.todo.items at = subst (λ (t : List ℕ). Contains t at) (sym e) (Contains-push new.todo.items at) in (
       subst (λ (ps : List (List Choice)). at < length ps) (sym paths) (is.there at here),
-      subst (λ (ps : List (List Choice)). AreFollowedBut p.start p.logs ps (new.todo.items ++ at ∷ [])) (sym paths)
-          (subst (AreFollowedBut p.start p.logs r.visited) e followed),
+      λ i lt.
+          let was = old p r new (Some at) is e paths cursors i lt in
+          elim (followed i was) [
+            | inl left ↦ inl (subst (λ (t : List ℕ). Contains t i) e left)
+            | inr done ↦ inr (taken_followed p r new (Some at) is e paths cursors i was done)
+          ],
     )
 
--- once its path is expanded, each but those that are to do then was followed
+-- once its path is followed, each but those that are to do then was followed
 pub followed_next : (p : Plan) (r new : Reached) (at : ℕ) (machines : Shelf) → IsTaken p r (Some at) → Adds p r new machines
-    → (AreMatched p.logs (cursors_at r.visited at) → ⊥) → IsExpanded p.start p.logs new.visited at
-    → AreFollowedBut p.start p.logs new.visited new.todo.items
-followed_next p r new at machines is adds part expanded = λ i there.
+    → IsFollowed p.start p.logs new at → AreFollowedBut p.start p.logs new new.todo.items
+followed_next p r new at machines is adds done = λ i there.
     elim (cases_lt i (length r.visited)) [
       | inr past ↦ inl (adds.more i past there)
       | inl below ↦
           elim (is.1 i below) [
-            | inr old ↦ inr (followed_grown p.start p.logs r.visited new.visited i adds.grows below old)
+            | inr old ↦ inr (followed_on p.start p.logs r new i adds.extends below old)
             | inl here ↦
                 elim (Contains-push_cases r.todo.items at i here) [
                   | inl left ↦ inl (adds.still i left)
-                  | inr same ↦ inr (subst (IsFollowed p.start p.logs new.visited) same (record {
-                    part = λ end. part (subst (AreMatched p.logs) (cursors_grown r.visited new.visited at adds.grows is.0) end);
-                    expanded = expanded;
-                  }))
+                  | inr same ↦ inr (subst (IsFollowed p.start p.logs new) same done)
                 ]
           ]
     ]
 
 -- ---- the three actors
 
--- where the lines of three actors are met, and these are all, the path is expanded
-pub all_met : (h : History) (l : Logs) (ps : List (List Choice)) (at : ℕ) (t : Turns) → HasEachActor t → IsMet h l ps at t.first → IsMet h l ps at t.second
-    → IsMet h l ps at t.third
-    → IsExpanded h l ps at
-all_met h l ps at t all first second third = λ x.
+-- where the lines of three actors are met, and these are all, all are
+pub all_met : (h : History) (l : Logs) (r : Reached) (at : ℕ) (t : Turns) → HasEachActor t → IsMet h l r at t.first → IsMet h l r at t.second
+    → IsMet h l r at t.third
+    → AreMet h l r at
+all_met h l r at t all first second third = λ x.
     elim (all x) [
-      | inl e ↦ subst (IsMet h l ps at) (sym e) first
+      | inl e ↦ subst (IsMet h l r at) (sym e) first
       | inr other ↦
           elim other [
-            | inl e ↦ subst (IsMet h l ps at) (sym e) second
-            | inr e ↦ subst (IsMet h l ps at) (sym e) third
+            | inl e ↦ subst (IsMet h l r at) (sym e) second
+            | inr e ↦ subst (IsMet h l r at) (sym e) third
           ]
     ]
+
+-- ---- missing steps
+
+-- each of the first n choices of a list is tried
+abbrev pub AreTriedTo : History → Logs → Reached → ℕ → List Choice → ℕ → Type 0
+AreTriedTo h l r at cs n = (j : ℕ) → j < n → IsTried h l r at (get_or cs j Start)
+
+-- the choice at a place is named
+pub named_at : (count i : ℕ) (cs : List Choice) → cs ≡ considered all_kinds count → i < length cs → names_below count (get_or cs i Start) ≡ true
+named_at count i cs e lt = named_if all_kinds count (get_or cs i Start) (is_one all_kinds count i cs e lt)
+
+-- one more is tried
+pub tried_next : (h : History) (l : Logs) (r new : Reached) (at n : ℕ) (cs : List Choice) (c : Choice) → Extends r new → at < length r.visited
+    → c ≡ get_or cs n Start → AreTriedTo h l r at cs n → IsTried h l new at c → AreTriedTo h l new at cs (n + 1)
+tried_next h l r new at n cs c e lt same tried last = λ j less.
+    elim (cases_lt j n) [
+      | inl before ↦ tried_on h l r new at (get_or cs j Start) e lt (tried j before)
+      | inr past ↦
+          let here : n ≡ j = omega (arith, past, less) in
+          subst (λ (k : ℕ). IsTried h l new at (get_or cs k Start)) here (subst (IsTried h l new at) same last)
+    ]
+
+-- all kinds of choices are considered
+considers_all : (count : ℕ) (c : Choice) → names_below count c ≡ true → is_considered all_kinds count c ≡ true
+considers_all count Start named = refl
+considers_all count (Begin t) named = subst (λ (b : Bool). (b && true) ≡ true) (sym named) refl
+considers_all count (Kill t) named = subst (λ (b : Bool). (b && true) ≡ true) (sym named) refl
+considers_all count (Run m t) named = subst (λ (b : Bool). (b && true) ≡ true) (sym named) refl
+considers_all count (Take m) named = refl
+considers_all count (Finish m) named = refl
+considers_all count (Push m) named = refl
+
+-- where each of all choices is tried, all are
+pub all_tried : (h : History) (l : Logs) (r : Reached) (at n : ℕ) (cs : List Choice) → cs ≡ considered all_kinds (length h.scenario.programs)
+    → length cs ≤ n → AreTriedTo h l r at cs n → AreTried h l r at
+all_tried h l r at n cs e le tried = λ c named.
+    let count = length h.scenario.programs in
+    let here = has_considered all_kinds count c (considers_all count c named) in
+    let all = ap (λ (ds : List Choice). length ds) e in
+    let is : get_or cs here.0 Start ≡ c = ap (λ (ds : List Choice). get_or ds here.0 Start) e ∙ here.2 in
+    subst (IsTried h l r at) is (tried here.0 (omega (arith, here.1, all, le)))
+
+-- where each choice was tried and then each next line met, the path was followed
+pub is_followed : (h : History) (l : Logs) (r new last : Reached) (at : ℕ) → at < length r.visited → Extends r new → Extends new last
+    → (AreMatched l (cursors_at r at) → ⊥) → AreTried h l new at → AreMet h l last at → IsFollowed h l last at
+is_followed h l r new last at lt x y part tried met =
+    let there : at < length new.visited = omega (arith, lt, x.paths.longer) in
+    record {
+      part = λ end. part (subst (AreMatched l) (y.cursors at there ∙ x.cursors at lt) end);
+      tried = λ c named. tried_on h l new last at c y there (tried c named);
+      met = met;
+    }
 
 -- ---- results
 

@@ -1,87 +1,32 @@
 -- Orders of lines, and ways along the logs: the choices of one are the other.
-use Rattle.std.proofs.Common.{◌≡◌, ◌∙◌, ℕ, zero, suc, ◌+◌, List, [], ◌∷◌, ◌++◌, length, refl, sym, ap, subst, arith, drop, Bool, slice_get, Some}
+use Rattle.std.proofs.Common.{◌≡◌, ◌∙◌, ℕ, ◌+◌, inl, inr, List, [], ◌∷◌, length, refl, sym, ap, subst, arith, Bool, slice_get, Some, true}
 use Rattle.std.specs.Prelude.{if◌then◌else◌}
-use Rattle.std.proofs.lemmas.Option.{slice_get_within, get_or_from_slice_get}
-use Rattle.std.proofs.lemmas.List.{drop_more}
 use Rattle.zy_isa.specs.declared.node.Actor.{Actor}
 use Rattle.zy_isa.specs.declared.node.Actor.TheVariants.{C, A, B}
 use Rattle.zy_isa.specs.declared.choice.Choice.{Choice}
-use Rattle.zy_isa.specs.Choices.{actor_of}
+use Rattle.zy_isa.specs.Choices.{actor_of, names_below}
 use Rattle.zy_isa.specs.Scenario.{Scenario}
+use Rattle.zy_table.specs.declared.entry.Entry.{Entry}
 use Rattle.zy_table.specs.State.{State}
 use Rattle.zy_table.specs.Play.{step}
 use Rattle.zy_threads.specs.Turns.{is_c, is_a, is_b}
 use Rattle.zy_logs.specs.declared.log_line.LogLine.{LogLine}
+use Rattle.zy_logs.specs.Agrees.{Agrees}
 use Rattle.zy_order.specs.declared.logs.Logs.{Logs}
 use Rattle.zy_order.specs.declared.cursors.Cursors.{Cursors}
-use Rattle.zy_logs.specs.Agrees.{Agrees}
+use Rattle.zy_order.specs.Gaps.{gaps_of, unlogged, IsMissing}
 use Rattle.zy_order.specs.Orders.{Fits, entry_at, lines_of, choices_of}
-use Rattle.zy_order.specs.Ways.{log_of, cursor, advanced, IsWay, cursors_after}
+use Rattle.zy_order.specs.Ways.{log_of, cursor_of, cursor, advanced, with_missing, IsIn, IsWithin, HasGap, Leads, IsWay}
+use Rattle.zy_order.proofs.GapLemmas.{Ahead, ahead_none, ahead_line, ahead_missing, ahead_next, at_end, NextIsLine, NextIsMissing}
+use Rattle.zy_order.proofs.WayLemmas.{HaveGaps, on_by}
 
--- ---- lists
-
--- the list from an element on
-drop_at : {X : Type 0} (xs : List X) (k : ℕ) (x : X) → slice_get xs k ≡ Some x → drop k xs ≡ x ∷ drop (k + 1) xs
-drop_at xs k x e =
-    drop_more xs k x (slice_get_within xs k x e) ∙ ap (λ y. y ∷ drop (k + 1) xs) (get_or_from_slice_get xs k x x e)
-
--- an element that the list from a place on begins with stands at that place
-at_drop : {X : Type 0} (xs : List X) (k : ℕ) (x : X) (ys : List X) → drop k xs ≡ x ∷ ys → slice_get xs k ≡ Some x
-at_drop [] zero x ys e = absurd (cc e)
-at_drop [] (suc k) x ys e = absurd (cc e)
-at_drop (y ∷ xs) zero x ys e = cc e
-at_drop (y ∷ xs) (suc k) x ys e = at_drop xs k x ys e
-
--- and the rest follows it
-rest_drop : {X : Type 0} (xs : List X) (k : ℕ) (x : X) (ys : List X) → drop k xs ≡ x ∷ ys → drop (k + 1) xs ≡ ys
-rest_drop xs k x ys e =
-    let here = drop_at xs k x (at_drop xs k x ys e) in
-    let both : x ∷ drop (k + 1) xs ≡ x ∷ ys = sym here ∙ e in
-    cc both
-
--- ---- one line
+-- ---- one actor among three
 
 -- whether two actors are the same
 abbrev pub is_same : Actor → Actor → Bool
 is_same C y = is_c y
 is_same A y = is_a y
 is_same B y = is_b y
-
--- the lines of x that are left where a line of y is next are that line, if it is of x, and those that are left after it
-taken : (x y : Actor) (l : Logs) (g : Cursors) (line : LogLine) (rest tail : List LogLine) → slice_get (log_of y l) (cursor y g) ≡ Some line
-    → drop (cursor x (advanced y g)) (log_of x l) ≡ rest ++ tail
-    → drop (cursor x g) (log_of x l) ≡ (if is_same x y then line ∷ rest else rest) ++ tail
-taken C C l g line rest tail at e = drop_at l.c.items g.c line at ∙ ap (λ lines. line ∷ lines) e
-taken C A l g line rest tail at e = e
-taken C B l g line rest tail at e = e
-taken A C l g line rest tail at e = e
-taken A A l g line rest tail at e = drop_at l.a.items g.a line at ∙ ap (λ lines. line ∷ lines) e
-taken A B l g line rest tail at e = e
-taken B C l g line rest tail at e = e
-taken B A l g line rest tail at e = e
-taken B B l g line rest tail at e = drop_at l.b.items g.b line at ∙ ap (λ lines. line ∷ lines) e
-
--- the other way: those that are left after it
-left : (x y : Actor) (l : Logs) (g : Cursors) (line : LogLine) (rest tail : List LogLine)
-    → drop (cursor x g) (log_of x l) ≡ (if is_same x y then line ∷ rest else rest) ++ tail
-    → drop (cursor x (advanced y g)) (log_of x l) ≡ rest ++ tail
-left C C l g line rest tail e = rest_drop l.c.items g.c line (rest ++ tail) e
-left C A l g line rest tail e = e
-left C B l g line rest tail e = e
-left A C l g line rest tail e = e
-left A A l g line rest tail e = rest_drop l.a.items g.a line (rest ++ tail) e
-left A B l g line rest tail e = e
-left B C l g line rest tail e = e
-left B A l g line rest tail e = e
-left B B l g line rest tail e = rest_drop l.b.items g.b line (rest ++ tail) e
-
--- and the line itself, which is next
-next_is : (y : Actor) (l : Logs) (g : Cursors) (line : LogLine) (rest tail : List LogLine)
-    → drop (cursor y g) (log_of y l) ≡ (if is_same y y then line ∷ rest else rest) ++ tail
-    → slice_get (log_of y l) (cursor y g) ≡ Some line
-next_is C l g line rest tail e = at_drop l.c.items g.c line (rest ++ tail) e
-next_is A l g line rest tail e = at_drop l.a.items g.a line (rest ++ tail) e
-next_is B l g line rest tail e = at_drop l.b.items g.b line (rest ++ tail) e
 
 -- the lines of x among one line and others
 pub lines_cons : (x : Actor) (line : LogLine) (lines : List LogLine)
@@ -90,66 +35,219 @@ lines_cons C line lines = refl
 lines_cons A line lines = refl
 lines_cons B line lines = refl
 
--- an actor's cursor, and its lines from there on: as many together before a line is matched as after it
-step_counts : (x y : Actor) (g : Cursors) (line : LogLine) (rest : List LogLine)
-    → cursor x (advanced y g) + length rest ≡ cursor x g + length (if is_same x y then line ∷ rest else rest)
-step_counts C C g line rest = omega arith
-step_counts C A g line rest = omega arith
-step_counts C B g line rest = omega arith
-step_counts A C g line rest = omega arith
-step_counts A A g line rest = omega arith
-step_counts A B g line rest = omega arith
-step_counts B C g line rest = omega arith
-step_counts B A g line rest = omega arith
-step_counts B B g line rest = omega arith
+-- cursors within the logs are in that of each actor
+is_in : (x : Actor) (l : Logs) (g : Cursors) → IsWithin l g → IsIn (log_of x l) (gaps_of x l.gaps) (cursor_of x g)
+is_in C l g w = w.of_c
+is_in A l g w = w.of_a
+is_in B l g w = w.of_b
 
--- after the choices of lines as many lines more of an actor are matched as it has among them
-pub cursor_after : (x : Actor) (order : List LogLine) (g : Cursors)
-    → cursor x (cursors_after g (choices_of order)) ≡ cursor x g + length (lines_of x order)
-cursor_after x [] g = omega arith
-cursor_after x (line ∷ order) g =
-    let y = actor_of line.choice in
-    omega (
-      arith,
-      cursor_after x order (advanced y g),
-      step_counts x y g line (lines_of x order),
-      ap length (lines_cons x line order),
-    )
+-- lines complete an actor's log from cursors on, up to others
+abbrev pub IsAhead : ℕ → Logs → Cursors → Cursors → Actor → List LogLine → Type 0
+IsAhead count l g to x lines = Ahead count x (log_of x l) (gaps_of x l.gaps) (cursor_of x g) (cursor x to) lines
+
+-- the lines of x after a line of y is matched: before it is, they are that line, if it is of x, and these
+with_line : (count : ℕ) (x y : Actor) (l : Logs) (g to : Cursors) (line : LogLine) (lines : List LogLine) → HaveGaps l → IsWithin l g
+    → slice_get (log_of y l) (cursor y g) ≡ Some line → IsAhead count l (advanced y g) to x lines
+    → IsAhead count l g to x (if is_same x y then line ∷ lines else lines)
+with_line count C C l g to line lines many w at a = ahead_line count C l.c.items l.gaps.c.items g.c to.c.lines line lines (many C) w.of_c at a
+with_line count C A l g to line lines many w at a = a
+with_line count C B l g to line lines many w at a = a
+with_line count A C l g to line lines many w at a = a
+with_line count A A l g to line lines many w at a = ahead_line count A l.a.items l.gaps.a.items g.a to.a.lines line lines (many A) w.of_a at a
+with_line count A B l g to line lines many w at a = a
+with_line count B C l g to line lines many w at a = a
+with_line count B A l g to line lines many w at a = a
+with_line count B B l g to line lines many w at a = ahead_line count B l.b.items l.gaps.b.items g.b to.b.lines line lines (many B) w.of_b at a
+
+-- so it is of a missing step of y
+with_step : (count : ℕ) (x y : Actor) (l : Logs) (g to : Cursors) (line : LogLine) (lines : List LogLine) → IsMissing count y line
+    → IsAhead count l (with_missing y g) to x lines
+    → IsAhead count l g to x (if is_same x y then line ∷ lines else lines)
+with_step count C C l g to line lines is a = ahead_missing count C l.c.items l.gaps.c.items g.c to.c.lines line lines is a
+with_step count C A l g to line lines is a = a
+with_step count C B l g to line lines is a = a
+with_step count A C l g to line lines is a = a
+with_step count A A l g to line lines is a = ahead_missing count A l.a.items l.gaps.a.items g.a to.a.lines line lines is a
+with_step count A B l g to line lines is a = a
+with_step count B C l g to line lines is a = a
+with_step count B A l g to line lines is a = a
+with_step count B B l g to line lines is a = ahead_missing count B l.b.items l.gaps.b.items g.b to.b.lines line lines is a
 
 -- ---- from a way to an order
 
--- each actor's lines from its cursor to another one are its lines of the order
-abbrev pub Between : Logs → Cursors → Cursors → List LogLine → Type 0
-Between l g to order = (x : Actor) → drop (cursor x g) (log_of x l) ≡ lines_of x order ++ drop (cursor x to) (log_of x l)
+-- lines that complete each log from cursors on, fit a state, and have these choices
+pub record IsOrderOf (sc : Scenario) (l : Logs) (g to : Cursors) (s : State) (cs : List Choice) (order : List LogLine) : Type 0 where
+  pub ahead : (x : Actor) → IsAhead (length sc.programs) l g to x (lines_of x order)
+  pub fits : Fits sc s order
+  pub choices : cs ≡ choices_of order
 
--- the choices of a way are those of lines that lie between its ends and fit
-pub order_of : (sc : Scenario) (l : Logs) (g : Cursors) (s : State) (cs : List Choice) → IsWay sc l g s cs
-    → (order : List LogLine) × Between l g (cursors_after g cs) order × Fits sc s order × (cs ≡ choices_of order)
-order_of sc l g s [] way = ([], λ x. refl, tt, refl)
-order_of sc l g s (c ∷ cs) way =
+-- the line of a step that leads on: it is the step's choice, agrees with it, and lies before the lines behind it
+pub record IsLineOf (count : ℕ) (l : Logs) (g next to : Cursors) (e : Entry) (line : LogLine) : Type 0 where
+  pub choice : line.choice ≡ e.choice
+  pub agrees : Agrees line e
+  pub before : (x : Actor) (lines : List LogLine) → IsAhead count l next to x lines
+      → IsAhead count l g to x (if is_same x (actor_of e.choice) then line ∷ lines else lines)
+
+-- each step that leads on has one
+line_of_step : (count : ℕ) (l : Logs) (g next to : Cursors) (e : Entry) → HaveGaps l → IsWithin l g → Leads count l g e next
+    → (line : LogLine) × IsLineOf count l g next to e line
+line_of_step count l g next to e many w leads =
+    let y = actor_of e.choice in
+    elim leads [
+      | inl by ↦ (
+        by.0.line,
+        record {
+          choice = by.0.choice;
+          agrees = by.0.agrees;
+          before = λ x lines a.
+              with_line count x y l g to by.0.line lines many w by.0.next (subst (λ (f : Cursors). IsAhead count l f to x lines) by.1 a);
+        },
+      )
+      | inr by ↦ (
+        unlogged e.choice,
+        record {
+          choice = refl;
+          agrees = (tt, tt);
+          before = λ x lines a.
+              with_step count x y l g to (unlogged e.choice) lines (record { is = refl; actor = refl; named = by.0.named })
+              (subst (λ (f : Cursors). IsAhead count l f to x lines) by.1 a);
+        },
+      )
+    ]
+
+-- the choices of a way are those of an order of the lines between its ends
+pub order_of : (sc : Scenario) (l : Logs) (g to : Cursors) (s : State) (cs : List Choice) → HaveGaps l → IsWithin l g → IsWay sc l g s cs to
+    → (order : List LogLine) × IsOrderOf sc l g to s cs order
+order_of sc l g to s [] many w way = (
+  [],
+  record {
+    ahead = λ x.
+        subst (λ (f : Cursors). IsAhead (length sc.programs) l g f x []) way
+        (ahead_none (length sc.programs) x (log_of x l) (gaps_of x l.gaps) (cursor_of x g) (many x) (is_in x l g w));
+    fits = tt;
+    choices = refl;
+  },
+)
+order_of sc l g to s (c ∷ cs) many w way =
+    let count = length sc.programs in
     let next = way.0 in
-    let rest = order_of sc l (advanced (actor_of c) g) (step sc c s).after cs way.1 in
-    let to = cursors_after g (c ∷ cs) in
-    let fits = subst (λ (d : Choice). Agrees next.line (entry_at sc s d) × Fits sc (step sc d s).after rest.0) (sym next.choice) (next.agrees, rest.2) in
-    let between : Between l g to (next.line ∷ rest.0) = λ x.
-    let here = taken x (actor_of c) l g next.line (lines_of x rest.0) (drop (cursor x to) (log_of x l)) next.next (rest.1 x) in
-    let there = subst (λ (d : Choice). drop (cursor x g) (log_of x l) ≡ (if is_same x (actor_of d) then next.line ∷ lines_of x rest.0 else lines_of x rest.0)
-    ++ drop (cursor x to) (log_of x l)) (sym next.choice) here in
-    there ∙ ap (λ lines. lines ++ drop (cursor x to) (log_of x l)) (sym (lines_cons x next.line rest.0)) in
-    (next.line ∷ rest.0, between, fits, (λ i. sym next.choice i ∷ rest.3 i))
+    let on = on_by count l g (entry_at sc s c) next many w way.1 in
+    let rest = order_of sc l next to (step sc c s).after cs many on.within way.2 in
+    let first = line_of_step count l g next to (entry_at sc s c) many w way.1 in
+    let line = first.0 in
+    let is = first.1 in (
+      line ∷ rest.0,
+      record {
+        ahead = λ x.
+            subst (IsAhead count l g to x) (sym (lines_cons x line rest.0))
+            (subst (λ (d : Choice). IsAhead count l g to x (if is_same x (actor_of d) then line ∷ lines_of x rest.0 else lines_of x rest.0)) (sym is.choice)
+            (is.before x (lines_of x rest.0) (rest.1.ahead x)));
+        fits = subst (λ (d : Choice). Agrees line (entry_at sc s d) × Fits sc (step sc d s).after rest.0) (sym is.choice) (is.agrees, rest.1.fits);
+        choices = λ i. sym is.choice i ∷ rest.1.choices i;
+      },
+    )
 
 -- ---- from an order to a way
 
--- the choices of lines that fit, and are of each actor the next ones, are a way
-pub way_of : (sc : Scenario) (l : Logs) (g : Cursors) (s : State) (order : List LogLine)
-    → ((x : Actor) → (tail : List LogLine) × (drop (cursor x g) (log_of x l) ≡ lines_of x order ++ tail)) → Fits sc s order
-    → IsWay sc l g s (choices_of order)
-way_of sc l g s [] first fits = tt
-way_of sc l g s (line ∷ order) first fits =
-    let y = actor_of line.choice in
-    let split : (x : Actor) → drop (cursor x g) (log_of x l) ≡ (if is_same x y then line ∷ lines_of x order else lines_of x order) ++ (first x).0 = λ x.
-    (first x).1 ∙ ap (λ lines. lines ++ (first x).0) (lines_cons x line order) in (
-      record { line = line; next = next_is y l g line (lines_of y order) (first y).0 (split y); choice = refl; agrees = fits.0 },
-      way_of sc l (advanced y g) (step sc line.choice s).after order
-          (λ x. ((first x).0, left x y l g line (lines_of x order) (first x).0 (split x))) fits.1,
-    )
+-- the first line of an order is that of a step that leads on, and the lines behind it are ahead from there
+pub record LeadsOn (count : ℕ) (l : Logs) (g to : Cursors) (e : Entry) (order : List LogLine) : Type 0 where
+  pub next : Cursors
+  pub leads : Leads count l g e next
+  pub ahead : (x : Actor) → IsAhead count l next to x (lines_of x order)
+
+-- the lines of x behind a line of y that is matched
+behind_line : (count : ℕ) (x y : Actor) (l : Logs) (g to : Cursors) (line : LogLine) (lines : Actor → List LogLine)
+    → ((z : Actor) → IsAhead count l g to z (if is_same z y then line ∷ lines z else lines z)) → IsAhead count l (advanced y g) to y (lines y)
+    → IsAhead count l (advanced y g) to x (lines x)
+behind_line count C C l g to line lines before own = own
+behind_line count C A l g to line lines before own = before C
+behind_line count C B l g to line lines before own = before C
+behind_line count A C l g to line lines before own = before A
+behind_line count A A l g to line lines before own = own
+behind_line count A B l g to line lines before own = before A
+behind_line count B C l g to line lines before own = before B
+behind_line count B A l g to line lines before own = before B
+behind_line count B B l g to line lines before own = own
+
+-- those behind a missing step of y
+behind_step : (count : ℕ) (x y : Actor) (l : Logs) (g to : Cursors) (line : LogLine) (lines : Actor → List LogLine)
+    → ((z : Actor) → IsAhead count l g to z (if is_same z y then line ∷ lines z else lines z)) → IsAhead count l (with_missing y g) to y (lines y)
+    → IsAhead count l (with_missing y g) to x (lines x)
+behind_step count C C l g to line lines before own = own
+behind_step count C A l g to line lines before own = before C
+behind_step count C B l g to line lines before own = before C
+behind_step count A C l g to line lines before own = before A
+behind_step count A A l g to line lines before own = own
+behind_step count A B l g to line lines before own = before A
+behind_step count B C l g to line lines before own = before B
+behind_step count B A l g to line lines before own = before B
+behind_step count B B l g to line lines before own = own
+
+-- y's own lines begin with its line
+own_line : (count : ℕ) (y : Actor) (l : Logs) (g to : Cursors) (line : LogLine) (lines : List LogLine)
+    → IsAhead count l g to y (if is_same y y then line ∷ lines else lines)
+    → IsAhead count l g to y (line ∷ lines)
+own_line count C l g to line lines a = a
+own_line count A l g to line lines a = a
+own_line count B l g to line lines a = a
+
+-- its cursor behind the line
+own_advanced : (count : ℕ) (y : Actor) (l : Logs) (g to : Cursors) (line : LogLine) (lines : List LogLine)
+    → NextIsLine count y (log_of y l) (gaps_of y l.gaps) (cursor_of y g) (cursor y to) line lines
+    → IsAhead count l (advanced y g) to y lines
+own_advanced count C l g to line lines next = next.goes_on
+own_advanced count A l g to line lines next = next.goes_on
+own_advanced count B l g to line lines next = next.goes_on
+
+-- and behind the step
+own_missing : (count : ℕ) (y : Actor) (l : Logs) (g to : Cursors) (line : LogLine) (lines : List LogLine)
+    → NextIsMissing count y (log_of y l) (gaps_of y l.gaps) (cursor_of y g) (cursor y to) line lines
+    → IsAhead count l (with_missing y g) to y lines
+own_missing count C l g to line lines next = next.goes_on
+own_missing count A l g to line lines next = next.goes_on
+own_missing count B l g to line lines next = next.goes_on
+
+-- a line that agrees with a step and is ahead leads on
+leads_on : (count : ℕ) (l : Logs) (g to : Cursors) (e : Entry) (line : LogLine) (order : List LogLine) → line.choice ≡ e.choice → Agrees line e
+    → ((x : Actor) → IsAhead count l g to x (if is_same x (actor_of e.choice) then line ∷ lines_of x order else lines_of x order))
+    → LeadsOn count l g to e order
+leads_on count l g to e line order same agrees before =
+    let y = actor_of e.choice in
+    let own = own_line count y l g to line (lines_of y order) (before y) in
+    elim (ahead_next count y (log_of y l) (gaps_of y l.gaps) (cursor_of y g) (cursor y to) line (lines_of y order) own) [
+      | inl by ↦ record {
+        next = advanced y g;
+        leads = inl (record { line = line; next = by.next; choice = same; agrees = agrees }, refl);
+        ahead = λ x.
+            behind_line count x y l g to line (λ z. lines_of z order) before (own_advanced count y l g to line (lines_of y order) by);
+      }
+      | inr by ↦ record {
+        next = with_missing y g;
+        leads = inr (record { named = subst (λ (d : Choice). names_below count d ≡ true) same by.missing.named; gap = by.gap }, refl);
+        ahead = λ x.
+            behind_step count x y l g to line (λ z. lines_of z order) before (own_missing count y l g to line (lines_of y order) by);
+      }
+    ]
+
+-- where a way leads that an order's choices are
+pub record IsWayBy (sc : Scenario) (l : Logs) (g to : Cursors) (s : State) (order : List LogLine) : Type 0 where
+  pub end : Cursors
+  pub way : IsWay sc l g s (choices_of order) end
+  pub lines : (x : Actor) → cursor x end ≡ cursor x to
+
+-- where no lines are ahead, an actor's cursor is at the end
+nothing_left : (count : ℕ) (l : Logs) (g to : Cursors) (x : Actor) → IsAhead count l g to x [] → cursor x g ≡ cursor x to
+nothing_left count l g to x a = at_end count x (log_of x l) (gaps_of x l.gaps) (cursor_of x g) (cursor x to) a
+
+-- lines that fit and are ahead of cursors are a way
+pub way_of : (sc : Scenario) (l : Logs) (g to : Cursors) (s : State) (order : List LogLine)
+    → ((x : Actor) → IsAhead (length sc.programs) l g to x (lines_of x order)) → Fits sc s order
+    → IsWayBy sc l g to s order
+way_of sc l g to s [] ahead fits = record { end = g; way = refl; lines = λ x. nothing_left (length sc.programs) l g to x (ahead x) }
+way_of sc l g to s (line ∷ order) ahead fits =
+    let count = length sc.programs in
+    let before : (x : Actor) → IsAhead count l g to x (if is_same x (actor_of line.choice) then line ∷ lines_of x order else lines_of x order) = λ x.
+    subst (IsAhead count l g to x) (lines_cons x line order) (ahead x) in
+    let on = leads_on count l g to (entry_at sc s line.choice) line order refl fits.0 before in
+    let rest = way_of sc l on.next to (step sc line.choice s).after order on.ahead fits.1 in
+    record { end = rest.end; way = (on.next, on.leads, rest.way); lines = rest.lines }

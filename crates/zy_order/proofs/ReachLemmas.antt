@@ -1,5 +1,5 @@
 -- What a search knows of the paths that it has reached.
-use Rattle.std.proofs.Common.{◌≡◌, ◌∙◌, ℕ, ◌<◌, List, [], ◌∷◌, length, refl, sym, ap, subst, arith}
+use Rattle.std.proofs.Common.{◌≡◌, ◌∙◌, ℕ, ◌<◌, inl, inr, List, [], ◌∷◌, length, refl, sym, ap, subst, arith}
 use Rattle.std.proofs.lemmas.Option.{slice_get_within}
 use Rattle.zy_isa.specs.declared.node.Actor.{Actor}
 use Rattle.zy_isa.specs.declared.choice.Choice.{Choice}
@@ -8,120 +8,135 @@ use Rattle.zy_table.specs.State.{State}
 use Rattle.zy_table.specs.Play.{play, step}
 use Rattle.zy_machine.specs.Histories.{History}
 use Rattle.zy_search.specs.Searches.{reached}
-use Rattle.zy_search.specs.Visits.{path_at, length_at, Grows}
-use Rattle.zy_search.specs.declared.branch.Branch.{Branch}
+use Rattle.zy_search.specs.Visits.{path_at, Grows}
+use Rattle.zy_search.proofs.SearchLemmas.{grows_on}
 use Rattle.zy_order.specs.declared.logs.Logs.{Logs}
 use Rattle.zy_order.specs.declared.cursors.Cursors.{Cursors}
 use Rattle.zy_order.specs.declared.plan.Plan.{Plan}
 use Rattle.zy_order.specs.declared.reached.Reached.{Reached}
 use Rattle.zy_order.specs.Orders.{entry_at}
-use Rattle.zy_order.specs.Ways.{log_of, cursor, at_start, advanced, matched, of_nodes, IsNoFurther, AreMatched, HasNext, IsWay, cursors_after}
-use Rattle.zy_order.specs.Reaches.{cursors_at, kept_at, entry_by, IsKnown, IsReached, IsMet, IsFollowed, IsFurthestPath, IsWayOf, IsFurthestWay, IsPlan, Leads}
-use Rattle.zy_order.proofs.WayLemmas.{matched_after, log_few}
+use Rattle.zy_order.specs.Ways.{log_of, cursor, cursor_of, gap_at, at_start, cursors_in, advanced, with_missing, of_nodes, IsNoFurther, NeedNoMore, AreMatched, HasNext, HasGap, Leads, IsWay}
+use Rattle.zy_order.specs.Reaches.{cursors_at, entry_by, state_by, Extends, IsKnown, IsReached, IsMet, IsTried, IsFollowed, IsFurthestPath, IsWayOf, IsFurthestWay, IsPlan}
+use Rattle.zy_order.proofs.NeedLemmas.{need_self, need_on, leads_less, matched_less, no_further_less}
+use Rattle.zy_order.proofs.WayLemmas.{log_few}
 
--- ---- closed under lines that fit
+-- ---- closed under steps that lead on
 
--- where each path was followed, a way from where one leads goes to where one leads
-pub stays_known : (h : History) (l : Logs) (ps : List (List Choice)) → ((i : ℕ) → i < length ps → IsFollowed h l ps i) → (cs : List Choice) (g : Cursors)
-    (s : State) → IsKnown h ps g s → IsWay h.scenario l g s cs
-    → IsKnown h ps (cursors_after g cs) (play h.scenario s cs)
-stays_known h l ps all [] g s known way = known
-stays_known h l ps all (c ∷ cs) g s known way =
+-- where a path was followed, each step that leads on from it leads where a path does
+followed_leads : (h : History) (l : Logs) (r : Reached) (i : ℕ) (c : Choice) (next : Cursors) → IsFollowed h l r i
+    → Leads (length h.scenario.programs) l (cursors_at r i) (entry_by h r i c) next → IsKnown h r next (state_by h r i c)
+followed_leads h l r i c next is leads =
+    elim leads [
+      | inl by ↦ subst (λ (g : Cursors). IsKnown h r g (state_by h r i c)) (sym by.1) (is.met (actor_of c) c refl by.0)
+      | inr by ↦ subst (λ (g : Cursors). IsKnown h r g (state_by h r i c)) (sym by.1) (is.tried c by.0.named by.0.gap)
+    ]
+
+-- where a path leads to a state is known with other cursors that need more
+known_more : (h : History) (r : Reached) (f g : Cursors) (s : State) → NeedNoMore f g → IsKnown h r f s → IsKnown h r g s
+known_more h r f g s n known = (known.0, known.1, need_on (cursors_at r known.0) f g known.2 n, known.3)
+
+-- where each path was followed, a step that leads on from where one leads goes to where one leads
+step_known : (h : History) (l : Logs) (r : Reached) → ((i : ℕ) → i < length r.visited → IsFollowed h l r i) → (c : Choice) (g next : Cursors) (s : State)
+    → IsKnown h r g s → Leads (length h.scenario.programs) l g (entry_at h.scenario s c) next
+    → IsKnown h r next (step h.scenario c s).after
+step_known h l r all c g next s known leads =
     let sc = h.scenario in
-    let next : HasNext l (cursors_at ps known.0) (entry_by h ps known.0 c) =
-    subst (λ (x : State). HasNext l (cursors_at ps known.0) (entry_at sc x c)) (sym known.3)
-    (subst (λ (f : Cursors). HasNext l f (entry_at sc s c)) (sym known.2) way.0) in
-    let after = (all known.0 known.1).expanded (actor_of c) c refl next in
-    let there : IsKnown h ps (advanced (actor_of c) g) (step sc c s).after = (
-      after.0,
-      after.1,
-      after.2 ∙ ap (advanced (actor_of c)) known.2,
-      after.3 ∙ ap (λ (x : State). (step sc c x).after) known.3,
-    ) in
-    stays_known h l ps all cs (advanced (actor_of c) g) (step sc c s).after there way.1
+    let count = length sc.programs in
+    let i = known.0 in
+    let here : Leads count l g (entry_by h r i c) next = subst (λ (x : State). Leads count l g (entry_at sc x c) next) (sym known.3) leads in
+    let less = leads_less count l (cursors_at r i) g (entry_by h r i c) next known.2 here in
+    let after = known_more h r less.to next (state_by h r i c) less.need (followed_leads h l r i c less.to (all i known.1) less.leads) in
+    subst (λ (x : State). IsKnown h r next (step sc c x).after) known.3 after
 
--- a path matches as many lines as it has choices
-pub matched_at : (ps : List (List Choice)) (i : ℕ) → matched (cursors_at ps i) ≡ length_at ps i
-matched_at ps i = omega (arith, matched_after (path_at ps i) at_start)
-
--- where cursors are no further than others, and these no further than third ones, they are no further than the third
-pub no_further_on : (f g k : Cursors) → IsNoFurther f g → IsNoFurther g k → IsNoFurther f k
-no_further_on f g k first second = record {
-  nodes = omega (arith, first.nodes, second.nodes);
-  client = λ e.
-      let same : of_nodes f ≡ of_nodes g = omega (arith, e, first.nodes, second.nodes) in
-      let same_on : of_nodes g ≡ of_nodes k = omega (arith, e, first.nodes, second.nodes) in
-      omega (arith, first.client same, second.client same_on);
-}
+-- so does a way
+stays_known : (h : History) (l : Logs) (r : Reached) → ((i : ℕ) → i < length r.visited → IsFollowed h l r i) → (cs : List Choice) (g to : Cursors)
+    (s : State) → IsKnown h r g s → IsWay h.scenario l g s cs to
+    → IsKnown h r to (play h.scenario s cs)
+stays_known h l r all [] g to s known way = subst (λ (f : Cursors). IsKnown h r f s) way known
+stays_known h l r all (c ∷ cs) g to s known way =
+    stays_known h l r all cs way.0 to (step h.scenario c s).after (step_known h l r all c g way.0 s known way.1) way.2
 
 -- where no kept cursors are further than those of a path, no other path leads further
-path_furthest : (p : Plan) (r : Reached) (best : ℕ) → IsReached p r → best < length r.cursors.items → IsFurthestPath r best → (i : ℕ)
-    → i < length r.visited → IsNoFurther (cursors_at r.visited i) (cursors_at r.visited best)
-path_furthest p r best is lt furthest i at =
-    let there = is.kept best (omega (arith, lt, is.many)) in
-    subst (λ (g : Cursors). IsNoFurther (cursors_at r.visited i) g) there
-    (subst (λ (f : Cursors). IsNoFurther f (kept_at r best)) (is.kept i at) (furthest i (omega (arith, at, is.many))))
+path_furthest : (p : Plan) (r : Reached) (best : ℕ) → IsReached p r → IsFurthestPath r best → (i : ℕ) → i < length r.visited
+    → IsNoFurther (cursors_at r i) (cursors_at r best)
+path_furthest p r best is furthest i at = furthest i (omega (arith, at, is.many))
 
 -- where each path was followed a way from the start leads where a path leads
-way_known : (p : Plan) (r : Reached) → IsReached p r → ((i : ℕ) → i < length r.visited → IsFollowed p.start p.logs r.visited i)
-    → (ds : List Choice) → IsWayOf p ds
-    → IsKnown p.start r.visited (cursors_after at_start ds) (play p.start.scenario p.start.state ds)
-way_known p r is all ds along =
-    let first : IsKnown p.start r.visited at_start p.start.state =
-    (0, is.some, ap (cursors_after at_start) is.first, ap (reached p.start) is.first) in
-    stays_known p.start p.logs r.visited all ds at_start p.start.state first along
+way_known : (p : Plan) (r : Reached) → IsReached p r → ((i : ℕ) → i < length r.visited → IsFollowed p.start p.logs r i)
+    → (ds : List Choice) (end : Cursors) → IsWayOf p ds end
+    → IsKnown p.start r end (play p.start.scenario p.start.state ds)
+way_known p r is all ds end along =
+    let start : NeedNoMore (cursors_at r 0) at_start = subst (NeedNoMore (cursors_at r 0)) is.start (need_self (cursors_at r 0)) in
+    let first : IsKnown p.start r at_start p.start.state = (0, is.some, start, ap (reached p.start) is.first) in
+    stays_known p.start p.logs r all ds at_start end p.start.state first along
 
 -- so no way matches all lines, and none leads further than the path that leads furthest
 pub furthest_way : (p : Plan) (r : Reached) (best : ℕ) → IsReached p r → best < length r.cursors.items → IsFurthestPath r best
-    → ((i : ℕ) → i < length r.visited → IsFollowed p.start p.logs r.visited i)
-    → IsFurthestWay p (path_at r.visited best)
-furthest_way p r best is lt furthest all =
-    let ps = r.visited in
-    record {
-      way = is.ways best (omega (arith, lt, is.many));
-      none = λ ds along end.
-          let known = way_known p r is all ds along in
-          (all known.0 known.1).part (subst (AreMatched p.logs) (sym known.2) end);
-      most = λ ds along.
-          let known = way_known p r is all ds along in
-          subst (λ (f : Cursors). IsNoFurther f (cursors_at ps best)) known.2 (path_furthest p r best is lt furthest known.0 known.1);
-    }
+    → ((i : ℕ) → i < length r.visited → IsFollowed p.start p.logs r i)
+    → IsFurthestWay p (path_at r.visited best) (cursors_at r best)
+furthest_way p r best is lt furthest all = record {
+  way = is.ways best (omega (arith, lt, is.many));
+  none = λ ds end along whole.
+      let known = way_known p r is all ds end along in
+      (all known.0 known.1).part (matched_less p.logs (cursors_at r known.0) end known.2 whole);
+  most = λ ds end along.
+      let known = way_known p r is all ds end along in
+      no_further_less (cursors_at r known.0) end (cursors_at r best) known.2 (path_furthest p r best is furthest known.0 known.1);
+}
 
--- ---- paths grow
+-- ---- paths are added
 
--- the cursors of a path stay
-pub cursors_grown : (ps qs : List (List Choice)) (i : ℕ) → Grows ps qs → i < length ps → cursors_at qs i ≡ cursors_at ps i
-cursors_grown ps qs i grows lt = ap (cursors_after at_start) (grows.same i lt)
+-- what is the same extends itself
+pub extends_same : (r new : Reached) → new.visited ≡ r.visited → new.cursors.items ≡ r.cursors.items → Extends r new
+extends_same r new paths cursors = record {
+  paths = subst (λ (ps : List (List Choice)). Grows r.visited ps) (sym paths) (record { longer = omega arith; same = λ i lt. refl });
+  cursors = λ i lt. ap (λ (gs : List Cursors). cursors_in gs i) cursors;
+}
+
+-- paths are added, and then others
+pub extends_on : (r s t : Reached) → Extends r s → Extends s t → Extends r t
+extends_on r s t x y = record {
+  paths = grows_on r.visited s.visited t.visited x.paths y.paths;
+  cursors = λ i lt. y.cursors i (omega (arith, lt, x.paths.longer)) ∙ x.cursors i lt;
+}
 
 -- what is known stays known
-known_grown : (h : History) (ps qs : List (List Choice)) (g : Cursors) (s : State) → Grows ps qs → IsKnown h ps g s → IsKnown h qs g s
-known_grown h ps qs g s grows known = (
+known_on : (h : History) (r new : Reached) (g : Cursors) (s : State) → Extends r new → IsKnown h r g s → IsKnown h new g s
+known_on h r new g s x known = (
   known.0,
-  omega (arith, known.1, grows.longer),
-  cursors_grown ps qs known.0 grows known.1 ∙ known.2,
-  ap (reached h) (grows.same known.0 known.1) ∙ known.3,
+  omega (arith, known.1, x.paths.longer),
+  subst (λ (f : Cursors). NeedNoMore f g) (sym (x.cursors known.0 known.1)) known.2,
+  ap (reached h) (x.paths.same known.0 known.1) ∙ known.3,
 )
 
 -- a line that was met still is
-pub met_grown : (h : History) (l : Logs) (ps qs : List (List Choice)) (i : ℕ) (x : Actor) → Grows ps qs → i < length ps → IsMet h l ps i x → IsMet h l qs i x
-met_grown h l ps qs i x grows lt met = λ c own.
-    subst (λ (p : List Choice). HasNext l (cursors_after at_start p) (entry_at h.scenario (reached h p) c)
-    → IsKnown h qs (advanced (actor_of c) (cursors_after at_start p)) (step h.scenario c (reached h p)).after) (sym (grows.same i lt))
-    (λ next. known_grown h ps qs _ _ grows (met c own next))
+pub met_on : (h : History) (l : Logs) (r new : Reached) (i : ℕ) (x : Actor) → Extends r new → i < length r.visited → IsMet h l r i x → IsMet h l new i x
+met_on h l r new i x e lt met = λ c own.
+    subst (λ (g : Cursors). HasNext l g (entry_by h new i c) → IsKnown h new (advanced x g) (state_by h new i c)) (sym (e.cursors i lt))
+    (subst (λ (path : List Choice). HasNext l (cursors_at r i) (entry_at h.scenario (reached h path) c)
+    → IsKnown h new (advanced x (cursors_at r i)) (step h.scenario c (reached h path)).after) (sym (e.paths.same i lt))
+    (λ next. known_on h r new _ _ e (met c own next)))
+
+-- a choice that was tried still is
+pub tried_on : (h : History) (l : Logs) (r new : Reached) (i : ℕ) (c : Choice) → Extends r new → i < length r.visited → IsTried h l r i c
+    → IsTried h l new i c
+tried_on h l r new i c e lt tried =
+    let x = actor_of c in
+    subst (λ (g : Cursors). HasGap x l g → IsKnown h new (with_missing x g) (state_by h new i c)) (sym (e.cursors i lt))
+    (subst (λ (path : List Choice). HasGap x l (cursors_at r i)
+    → IsKnown h new (with_missing x (cursors_at r i)) (step h.scenario c (reached h path)).after) (sym (e.paths.same i lt))
+    (λ gap. known_on h r new _ _ e (tried gap)))
 
 -- a path that was followed still is
-pub followed_grown : (h : History) (l : Logs) (ps qs : List (List Choice)) (i : ℕ) → Grows ps qs → i < length ps → IsFollowed h l ps i → IsFollowed h l qs i
-followed_grown h l ps qs i grows lt is = record {
-  part = λ end. is.part (subst (AreMatched l) (cursors_grown ps qs i grows lt) end);
-  expanded = λ x. met_grown h l ps qs i x grows lt (is.expanded x);
+pub followed_on : (h : History) (l : Logs) (r new : Reached) (i : ℕ) → Extends r new → i < length r.visited → IsFollowed h l r i → IsFollowed h l new i
+followed_on h l r new i e lt is = record {
+  part = λ end. is.part (subst (AreMatched l) (e.cursors i lt) end);
+  tried = λ c named. tried_on h l r new i c e lt (is.tried c named);
+  met = λ x. met_on h l r new i x e lt (is.met x);
 }
 
--- ---- a branch
+-- ---- cursors have room
 
--- the cursor of its actor has room for one line more
-pub cursor_few : (p : Plan) (r : Reached) (b : Branch) (m : History) → IsPlan p → IsReached p r → Leads p r b m
-    → cursor (actor_of b.by) (kept_at r b.from) < 65535
-cursor_few p r b m plan is leads =
-    let lt = slice_get_within (log_of (actor_of b.by) p.logs) (cursor (actor_of b.by) (cursors_at r.visited b.from)) leads.line.line leads.line.next in
-    let same = ap (cursor (actor_of b.by)) (is.kept b.from leads.there) in
-    omega (arith, lt, same, log_few (actor_of b.by) p.logs, plan.room)
+-- an actor's cursor has room for one line more where it has a next line
+pub line_few : (p : Plan) (x : Actor) (g : Cursors) → IsPlan p → cursor x g < length (log_of x p.logs) → cursor x g < 65535
+line_few p x g plan lt = omega (arith, lt, log_few x p.logs, plan.room)

@@ -1,98 +1,211 @@
 -- Choices that go along the logs.
-use Rattle.std.proofs.Common.{◌≡◌, ℕ, ◌+◌, ◌<◌, ◌≤◌, inl, inr, List, [], ◌∷◌, ◌++◌, length, refl, subst, arith, true}
+use Rattle.std.proofs.Common.{◌≡◌, ◌∙◌, ℕ, ◌+◌, ◌<◌, ◌≤◌, inl, inr, List, [], ◌∷◌, ◌++◌, length, refl, sym, ap, subst, arith, true, take, get_or}
+use Rattle.std.specs.Prelude.{sum}
 use Rattle.std.proofs.lemmas.Option.{slice_get_within}
 use Rattle.std.proofs.lemmas.Bool.{cases_lt}
+use Rattle.std.proofs.lemmas.List.Sums.{sum_by_more, sum_by-take-le}
 use Rattle.zy_isa.specs.declared.node.Actor.{Actor}
 use Rattle.zy_isa.specs.declared.node.Actor.TheVariants.{C, A, B}
 use Rattle.zy_isa.specs.declared.choice.Choice.{Choice}
 use Rattle.zy_isa.specs.Choices.{actor_of, names_below}
 use Rattle.zy_isa.specs.Scenario.{Scenario, AreNamed}
+use Rattle.zy_table.specs.declared.entry.Entry.{Entry}
 use Rattle.zy_table.specs.State.{State}
 use Rattle.zy_table.specs.Play.{play, step}
+use Rattle.zy_logs.specs.declared.log_line.LogLine.{LogLine}
 use Rattle.zy_order.specs.declared.logs.Logs.{Logs}
+use Rattle.zy_order.specs.declared.cursors.Cursor.{Cursor}
 use Rattle.zy_order.specs.declared.cursors.Cursors.{Cursors}
+use Rattle.zy_order.specs.Gaps.{gaps_of, gap_count}
 use Rattle.zy_order.specs.Orders.{entry_at}
-use Rattle.zy_order.specs.Ways.{log_of, cursor, at_start, advanced, matched, line_count, AreMatched, IsWithin, HasNext, IsWay, cursors_after, AreLinesOf}
+use Rattle.zy_order.specs.Ways.{log_of, cursor_of, cursor, at_start, gap_at, passed, filled, advanced, with_missing, line_count, step_count}
+use Rattle.zy_order.specs.Ways.{AreMatched, IsIn, IsWithin, HasNext, HasGap, MayBeMissing, Leads, IsWay, AreLinesOf}
 
--- ---- how far
+-- ---- in one log
 
--- an advance matches one line more
-matched_advanced : (x : Actor) (g : Cursors) → matched (advanced x g) ≡ matched g + 1
-matched_advanced C g = omega arith
-matched_advanced A g = omega arith
-matched_advanced B g = omega arith
+-- how many steps are possible up to a cursor: one for each line, and those of each gap before it
+abbrev spent : List ℕ → Cursor → ℕ
+spent gaps g = g.lines + (sum (take g.lines gaps) + g.missing)
 
--- as many lines are matched as choices are made
-pub matched_after : (cs : List Choice) (g : Cursors) → matched (cursors_after g cs) ≡ matched g + length cs
-matched_after [] g = omega arith
-matched_after (c ∷ cs) g = omega (arith, matched_after cs (advanced (actor_of c) g), matched_advanced (actor_of c) g)
+-- there is a gap before each line of a log, and one behind the last
+abbrev HasGaps : List LogLine → List ℕ → Type 0
+HasGaps log gaps = length gaps ≡ length log + 1
 
--- where an actor has a next line the cursors are within the logs after it
-within_advanced : (x : Actor) (l : Logs) (g : Cursors) → IsWithin l g → cursor x g < length (log_of x l) → IsWithin l (advanced x g)
-within_advanced C l g w lt = record { of_c = omega (arith, lt); of_a = w.of_a; of_b = w.of_b }
-within_advanced A l g w lt = record { of_c = w.of_c; of_a = omega (arith, lt); of_b = w.of_b }
-within_advanced B l g w lt = record { of_c = w.of_c; of_a = w.of_a; of_b = omega (arith, lt) }
+module _ (log : List LogLine) (gaps : List ℕ) (g : Cursor) (many : HasGaps log gaps) (is : IsIn log gaps g) where
+  -- the gaps up to the next line
+  gaps_up : sum (take (g.lines + 1) gaps) ≡ sum (take g.lines gaps) + gap_at gaps g
+  gaps_up = sum_by_more (λ x. x) gaps g.lines 0 (omega (arith, many, is.lines))
 
--- so they are wherever a way leads
-pub within_after : (sc : Scenario) (l : Logs) (g : Cursors) (s : State) (cs : List Choice) → IsWay sc l g s cs → IsWithin l g → IsWithin l (cursors_after g cs)
-within_after sc l g s [] way w = w
-within_after sc l g s (c ∷ cs) way w =
-    let next = way.0 in
-    within_after sc l (advanced (actor_of c) g) (step sc c s).after cs way.1
-    (within_advanced (actor_of c) l g w (slice_get_within _ _ next.line next.next))
+  -- no more steps are possible than the log has room for
+  pub spent_few : spent gaps g ≤ length log + sum gaps
+  spent_few = omega (arith, gaps_up, sum_by-take-le (λ x. x) gaps (g.lines + 1), is.lines, is.missing)
 
--- at the start they are within the logs
-pub within_start : (l : Logs) → IsWithin l at_start
-within_start l = record { of_c = omega arith; of_a = omega arith; of_b = omega arith }
+  -- and fewer where a line is left
+  pub spent_fewer : g.lines < length log → spent gaps g < length log + sum gaps
+  spent_fewer lt = omega (arith, gaps_up, sum_by-take-le (λ x. x) gaps (g.lines + 1), lt, is.missing)
 
--- where as many lines are matched as there are, all are
-all_matched : (l : Logs) (g : Cursors) → IsWithin l g → line_count l ≤ matched g → AreMatched l g
-all_matched l g w le = record {
-  of_c = omega (arith, le, w.of_c, w.of_a, w.of_b);
-  of_a = omega (arith, le, w.of_c, w.of_a, w.of_b);
-  of_b = omega (arith, le, w.of_c, w.of_a, w.of_b);
+  -- behind the next line the cursor is within the log
+  in_passed : g.lines < length log → IsIn log gaps (passed g)
+  in_passed lt = record { lines = omega (arith, lt); missing = omega arith }
+
+  -- and one step more is possible
+  spent_passed : spent gaps g < spent gaps (passed g)
+  spent_passed = omega (arith, gaps_up, is.missing)
+
+  -- so it is with a missing step more
+  in_filled : g.missing < gap_at gaps g → IsIn log gaps (filled g)
+  in_filled lt = record { lines = is.lines; missing = omega (arith, lt) }
+
+  spent_filled : spent gaps g < spent gaps (filled g)
+  spent_filled = omega arith
+
+-- ---- in the three logs
+
+-- each log has a gap before each line and one behind the last
+abbrev pub HaveGaps : Logs → Type 0
+HaveGaps l = (x : Actor) → length (gaps_of x l.gaps) ≡ length (log_of x l) + 1
+
+-- how many steps are possible up to cursors
+abbrev pub possible : Logs → Cursors → ℕ
+possible l g = spent l.gaps.c.items g.c + (spent l.gaps.a.items g.a + spent l.gaps.b.items g.b)
+
+-- what a step leads to: cursors within the logs, with one step more
+pub record IsOn (l : Logs) (g to : Cursors) : Type 0 where
+  pub within : IsWithin l to
+  pub more : possible l g < possible l to
+
+-- the next line of an actor
+on_advanced : (x : Actor) (l : Logs) (g : Cursors) → HaveGaps l → IsWithin l g → cursor x g < length (log_of x l) → IsOn l g (advanced x g)
+on_advanced C l g many w lt = record {
+  within = record { of_c = in_passed l.c.items l.gaps.c.items g.c (many C) w.of_c lt; of_a = w.of_a; of_b = w.of_b };
+  more = omega (arith, spent_passed l.c.items l.gaps.c.items g.c (many C) w.of_c);
+}
+on_advanced A l g many w lt = record {
+  within = record { of_c = w.of_c; of_a = in_passed l.a.items l.gaps.a.items g.a (many A) w.of_a lt; of_b = w.of_b };
+  more = omega (arith, spent_passed l.a.items l.gaps.a.items g.a (many A) w.of_a);
+}
+on_advanced B l g many w lt = record {
+  within = record { of_c = w.of_c; of_a = w.of_a; of_b = in_passed l.b.items l.gaps.b.items g.b (many B) w.of_b lt };
+  more = omega (arith, spent_passed l.b.items l.gaps.b.items g.b (many B) w.of_b);
 }
 
--- where not all lines are matched fewer are than there are
-pub fewer_matched : (l : Logs) (g : Cursors) → IsWithin l g → (AreMatched l g → ⊥) → matched g < line_count l
-fewer_matched l g w part =
-    elim (cases_lt (matched g) (line_count l)) [
-      | inl less ↦ less
-      | inr le ↦ absurd (part (all_matched l g w le))
+-- a missing step of an actor
+on_missing : (x : Actor) (l : Logs) (g : Cursors) → HaveGaps l → IsWithin l g → HasGap x l g → IsOn l g (with_missing x g)
+on_missing C l g many w lt = record {
+  within = record { of_c = in_filled l.c.items l.gaps.c.items g.c (many C) w.of_c lt; of_a = w.of_a; of_b = w.of_b };
+  more = omega (arith, spent_filled l.c.items l.gaps.c.items g.c (many C) w.of_c);
+}
+on_missing A l g many w lt = record {
+  within = record { of_c = w.of_c; of_a = in_filled l.a.items l.gaps.a.items g.a (many A) w.of_a lt; of_b = w.of_b };
+  more = omega (arith, spent_filled l.a.items l.gaps.a.items g.a (many A) w.of_a);
+}
+on_missing B l g many w lt = record {
+  within = record { of_c = w.of_c; of_a = w.of_a; of_b = in_filled l.b.items l.gaps.b.items g.b (many B) w.of_b lt };
+  more = omega (arith, spent_filled l.b.items l.gaps.b.items g.b (many B) w.of_b);
+}
+
+-- so does each step
+pub on_by : (count : ℕ) (l : Logs) (g : Cursors) (e : Entry) (to : Cursors) → HaveGaps l → IsWithin l g → Leads count l g e to → IsOn l g to
+on_by count l g e to many w leads =
+    let x = actor_of e.choice in
+    elim leads [
+      | inl by ↦ subst (IsOn l g) (sym by.1) (on_advanced x l g many w (slice_get_within (log_of x l) (cursor x g) by.0.line by.0.next))
+      | inr by ↦ subst (IsOn l g) (sym by.1) (on_missing x l g many w by.0.gap)
     ]
 
--- a log has no more lines than all have together
-pub log_few : (x : Actor) (l : Logs) → length (log_of x l) ≤ line_count l
+-- at the start the cursors are within the logs
+pub within_start : (l : Logs) → IsWithin l at_start
+within_start l = record {
+  of_c = record { lines = omega arith; missing = omega arith };
+  of_a = record { lines = omega arith; missing = omega arith };
+  of_b = record { lines = omega arith; missing = omega arith };
+}
+
+-- what a way leads to: cursors within the logs, with as many steps more at least as it has choices
+pub record IsAlong (l : Logs) (g : Cursors) (cs : List Choice) (to : Cursors) : Type 0 where
+  pub within : IsWithin l to
+  pub more : possible l g + length cs ≤ possible l to
+
+-- each way does
+pub along : (sc : Scenario) (l : Logs) (g : Cursors) (s : State) (cs : List Choice) (to : Cursors) → HaveGaps l → IsWithin l g → IsWay sc l g s cs to
+    → IsAlong l g cs to
+along sc l g s [] to many w way = subst (IsAlong l g []) way (record { within = w; more = omega arith })
+along sc l g s (c ∷ cs) to many w way =
+    let on = on_by (length sc.programs) l g (entry_at sc s c) way.0 many w way.1 in
+    let rest = along sc l way.0 (step sc c s).after cs to many on.within way.2 in
+    record { within = rest.within; more = omega (arith, on.more, rest.more) }
+
+-- where not all lines are matched, fewer steps are possible than the logs have room for
+pub possible_fewer : (l : Logs) (g : Cursors) → HaveGaps l → IsWithin l g → (AreMatched l g → ⊥) → possible l g < step_count l
+possible_fewer l g many w part =
+    let c = spent_few l.c.items l.gaps.c.items g.c (many C) w.of_c in
+    let a = spent_few l.a.items l.gaps.a.items g.a (many A) w.of_a in
+    let b = spent_few l.b.items l.gaps.b.items g.b (many B) w.of_b in
+    elim (cases_lt g.c.lines (length l.c.items)) [
+      | inl less ↦ omega (arith, spent_fewer l.c.items l.gaps.c.items g.c (many C) w.of_c less, a, b)
+      | inr c_all ↦
+          elim (cases_lt g.a.lines (length l.a.items)) [
+            | inl less ↦ omega (arith, spent_fewer l.a.items l.gaps.a.items g.a (many A) w.of_a less, c, b)
+            | inr a_all ↦
+                elim (cases_lt g.b.lines (length l.b.items)) [
+                  | inl less ↦ omega (arith, spent_fewer l.b.items l.gaps.b.items g.b (many B) w.of_b less, c, a)
+                  | inr b_all ↦ absurd (part (record {
+                    of_c = omega (arith, c_all, w.of_c.lines);
+                    of_a = omega (arith, a_all, w.of_a.lines);
+                    of_b = omega (arith, b_all, w.of_b.lines);
+                  }))
+                ]
+          ]
+    ]
+
+-- a log has no more lines than all have room for steps
+pub log_few : (x : Actor) (l : Logs) → length (log_of x l) ≤ step_count l
 log_few C l = omega arith
 log_few A l = omega arith
 log_few B l = omega arith
 
 -- ---- ways
 
--- a way has no more choices than there are lines
-pub way_few : (sc : Scenario) (l : Logs) (s : State) (cs : List Choice) → IsWay sc l at_start s cs → length cs ≤ line_count l
-way_few sc l s cs way =
-    let w = within_after sc l at_start s cs way (within_start l) in
-    omega (arith, matched_after cs at_start, w.of_c, w.of_a, w.of_b)
-
--- where each line names a transaction that is there, each choice of a way does
-pub way_named : (count : ℕ) (sc : Scenario) (l : Logs) (g : Cursors) (s : State) (cs : List Choice) → ((x : Actor) → AreLinesOf count x (log_of x l))
-    → IsWay sc l g s cs → AreNamed count cs
-way_named count sc l g s [] lines way = tt
-way_named count sc l g s (c ∷ cs) lines way =
-    let next = way.0 in (
-      subst (λ (d : Choice). names_below count d ≡ true) next.choice ((lines (actor_of c) _ next.line next.next).1),
-      way_named count sc l (advanced (actor_of c) g) (step sc c s).after cs lines way.1,
+-- a way has no more choices than the logs have room for steps
+pub way_few : (sc : Scenario) (l : Logs) (s : State) (cs : List Choice) (to : Cursors) → HaveGaps l → IsWay sc l at_start s cs to → length cs ≤ step_count l
+way_few sc l s cs to many way =
+    let is = along sc l at_start s cs to many (within_start l) way in
+    omega (
+      arith,
+      is.more,
+      spent_few l.c.items l.gaps.c.items to.c (many C) is.within.of_c,
+      spent_few l.a.items l.gaps.a.items to.a (many A) is.within.of_a,
+      spent_few l.b.items l.gaps.b.items to.b (many B) is.within.of_b,
     )
 
--- a way goes on by a step that the logs have next
-pub way_push : (sc : Scenario) (l : Logs) (g : Cursors) (s : State) (cs : List Choice) (c : Choice) → IsWay sc l g s cs
-    → HasNext l (cursors_after g cs) (entry_at sc (play sc s cs) c)
-    → IsWay sc l g s (cs ++ c ∷ [])
-way_push sc l g s [] c way next = (next, tt)
-way_push sc l g s (d ∷ cs) c way next = (way.0, way_push sc l (advanced (actor_of d) g) (step sc d s).after cs c way.1 next)
+-- and fewer where a line is left
+pub way_fewer : (sc : Scenario) (l : Logs) (s : State) (cs : List Choice) (to : Cursors) → HaveGaps l → IsWay sc l at_start s cs to
+    → (AreMatched l to → ⊥) → length cs < step_count l
+way_fewer sc l s cs to many way part =
+    let is = along sc l at_start s cs to many (within_start l) way in
+    omega (arith, is.more, possible_fewer l to many is.within part)
 
--- and its cursors advance
-pub after_push : (g : Cursors) (cs : List Choice) (c : Choice) → cursors_after g (cs ++ c ∷ []) ≡ advanced (actor_of c) (cursors_after g cs)
-after_push g [] c = refl
-after_push g (d ∷ cs) c = after_push (advanced (actor_of d) g) cs c
+-- where each line names a transaction that is there, each choice that leads on does
+leads_named : (count : ℕ) (l : Logs) (g : Cursors) (e : Entry) (to : Cursors) → ((x : Actor) → AreLinesOf count x (log_of x l)) → Leads count l g e to
+    → names_below count e.choice ≡ true
+leads_named count l g e to lines leads =
+    elim leads [
+      | inl by ↦ subst (λ (d : Choice). names_below count d ≡ true) by.0.choice ((lines (actor_of e.choice) _ by.0.line by.0.next).1)
+      | inr by ↦ by.0.named
+    ]
+
+-- so each choice of a way does
+pub way_named : (sc : Scenario) (l : Logs) (g : Cursors) (s : State) (cs : List Choice) (to : Cursors)
+    → ((x : Actor) → AreLinesOf (length sc.programs) x (log_of x l)) → IsWay sc l g s cs to
+    → AreNamed (length sc.programs) cs
+way_named sc l g s [] to lines way = tt
+way_named sc l g s (c ∷ cs) to lines way =
+    (leads_named (length sc.programs) l g (entry_at sc s c) way.0 lines way.1, way_named sc l way.0 (step sc c s).after cs to lines way.2)
+
+-- a way goes on by a step
+pub way_push : (sc : Scenario) (l : Logs) (g : Cursors) (s : State) (cs : List Choice) (to : Cursors) (c : Choice) (on : Cursors) → IsWay sc l g s cs to
+    → Leads (length sc.programs) l to (entry_at sc (play sc s cs) c) on
+    → IsWay sc l g s (cs ++ c ∷ []) on
+way_push sc l g s [] to c on way leads =
+    (on, subst (λ (f : Cursors). Leads (length sc.programs) l f (entry_at sc s c) on) (sym way) leads, refl)
+way_push sc l g s (d ∷ cs) to c on way leads = (way.0, way.1, way_push sc l way.0 (step sc d s).after cs to c on way.2 leads)

@@ -1,3 +1,4 @@
+pub mod Gaps
 pub mod Orders
 pub mod Ways
 pub mod Answers

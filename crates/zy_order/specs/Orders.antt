@@ -1,8 +1,7 @@
--- Orders of the lines of three logs, one for each actor.
-use Rattle.std.specs.Prelude.{◌≡◌, ◌++◌, List, [], ◌∷◌, map}
+-- Orders of the lines of three logs, one for each actor, and of steps that the logs lack.
+use Rattle.std.specs.Prelude.{ℕ, List, [], ◌∷◌, length, map}
 use Rattle.std.specs.List.{filter}
 use Rattle.zy_isa.specs.declared.node.Actor.{Actor}
-use Rattle.zy_isa.specs.declared.node.Actor.TheVariants.{C, A, B}
 use Rattle.zy_isa.specs.declared.choice.Choice.{Choice}
 use Rattle.zy_isa.specs.Scenario.{Scenario}
 use Rattle.zy_table.specs.declared.entry.Entry.{Entry}
@@ -11,6 +10,8 @@ use Rattle.zy_table.specs.Play.{step, entry_of}
 use Rattle.zy_threads.specs.Turns.{is_by}
 use Rattle.zy_logs.specs.declared.log_line.LogLine.{LogLine}
 use Rattle.zy_logs.specs.Agrees.{Agrees}
+use Rattle.zy_order.specs.declared.gaps.Gaps.{Gaps}
+use Rattle.zy_order.specs.Gaps.{gaps_of, Completes}
 
 -- what comes of a choice in a state
 abbrev pub entry_at : Scenario → State → Choice → Entry
@@ -25,25 +26,24 @@ Fits sc s (line ∷ lines) = Agrees line (entry_at sc s line.choice) × Fits sc 
 abbrev pub lines_of : Actor → List LogLine → List LogLine
 lines_of x lines = filter (λ (line : LogLine). is_by x line.choice) lines
 
--- a merge of the logs: each actor's lines, whole and in order
-pub record IsMerge (order lines : List LogLine) : Type 0 where
-  pub of_c : lines_of C order ≡ lines_of C lines
-  pub of_a : lines_of A order ≡ lines_of A lines
-  pub of_b : lines_of B order ≡ lines_of B lines
+-- how many lines each actor's log has
+abbrev pub all_of : List LogLine → Actor → ℕ
+all_of lines x = length (lines_of x lines)
 
--- an order of the lines: a merge of the logs that fits the state
-pub record IsOrder (sc : Scenario) (s : State) (lines order : List LogLine) : Type 0 where
-  pub merge : IsMerge order lines
+-- a merge of completions: of each actor's log, its first lines, as many as `taken` has of it, are completed
+abbrev pub Merges : Scenario → List LogLine → Gaps → (Actor → ℕ) → List LogLine → Type 0
+Merges sc lines gaps taken order =
+    (x : Actor) → Completes (length sc.programs) x (taken x) (lines_of x lines) (gaps_of x gaps) (lines_of x order)
+
+-- an order of prefixes of the logs: a merge of their completions that fits the state
+pub record IsPrefixOrder (sc : Scenario) (s : State) (lines : List LogLine) (gaps : Gaps) (taken : Actor → ℕ)
+    (order : List LogLine) : Type 0 where
+  pub merges : Merges sc lines gaps taken order
   pub fits : Fits sc s order
 
--- xs is a prefix of ys
-abbrev pub IsPrefix : List LogLine → List LogLine → Type 0
-IsPrefix xs ys = (rest : List LogLine) × (ys ≡ xs ++ rest)
-
--- an order of prefixes of the logs: of each actor's log it has a prefix, and it fits the state
-pub record IsPrefixOrder (sc : Scenario) (s : State) (lines order : List LogLine) : Type 0 where
-  pub prefixes : (x : Actor) → IsPrefix (lines_of x order) (lines_of x lines)
-  pub fits : Fits sc s order
+-- an order of the logs: all of their lines are taken
+abbrev pub IsOrder : Scenario → State → List LogLine → Gaps → List LogLine → Type 0
+IsOrder sc s lines gaps order = IsPrefixOrder sc s lines gaps (all_of lines) order
 
 -- the choices of lines
 abbrev pub choices_of : List LogLine → List Choice

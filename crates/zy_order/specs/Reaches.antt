@@ -1,14 +1,16 @@
 -- What a search keeps, and what each of its parts adds.
-use Rattle.std.specs.Prelude.{ℕ, ◌≡◌, ◌≤◌, ◌<◌, ◌+◌, ◌^◌, ◌⊎◌, ◌++◌, List, [], ◌∷◌, Option, None, Some, length}
+use Rattle.std.specs.Prelude.{ℕ, ◌≡◌, ◌≤◌, ◌<◌, ◌+◌, ◌^◌, ◌⊎◌, ◌++◌, List, [], ◌∷◌, Option, None, Some, true, length}
 use Rattle.std.specs.Prelude.{Contains}
 use Rattle.zy_isa.specs.Limits.{max_choices}
 use Rattle.zy_isa.specs.declared.node.Actor.{Actor}
 use Rattle.zy_isa.specs.declared.choice.Choice.{Choice}
-use Rattle.zy_isa.specs.Choices.{actor_of}
+use Rattle.zy_isa.specs.Choices.{actor_of, names_below}
 use Rattle.zy_table.specs.declared.entry.Entry.{Entry}
 use Rattle.zy_table.specs.State.{State}
 use Rattle.zy_table.specs.Play.{step}
 use Rattle.zy_machine.specs.Histories.{History}
+use Rattle.zy_search.specs.declared.kinds.ChoiceKinds.{ChoiceKinds}
+use Rattle.zy_search.specs.Choices.{considered}
 use Rattle.zy_search.specs.Searches.{reached}
 use Rattle.zy_search.specs.Visits.{path_at, length_at, Grows, IsShelf}
 use Rattle.zy_search.specs.declared.shelf.Shelf.{Shelf}
@@ -23,39 +25,44 @@ use Rattle.zy_order.specs.declared.answer.OrderAnswer.TheVariants as answer
 use Rattle.zy_order.specs.declared.follow.Followed.{Followed}
 use Rattle.zy_order.specs.declared.follow.Followed.TheVariants as followed
 use Rattle.zy_order.specs.Orders.{entry_at}
-use Rattle.zy_order.specs.Ways.{log_of, at_start, cursors_in, advanced, line_count, cursors_after}
-use Rattle.zy_order.specs.Ways.{IsNoFurther, AreMatched, HasNext, IsWay, AreLinesOf}
+use Rattle.zy_order.specs.Gaps.{gaps_of}
+use Rattle.zy_order.specs.Ways.{log_of, at_start, cursors_in, advanced, with_missing, step_count}
+use Rattle.zy_order.specs.Ways.{IsNoFurther, NeedNoMore, AreMatched, HasNext, HasGap, Leads, IsWay, AreLinesOf}
 
 -- ---- what a search goes by
 
--- the logs have lines of their actors, and the history has room for all of them
+-- all kinds of choices
+abbrev pub all_kinds : ChoiceKinds
+all_kinds = record { start = true; begin = true; kill = true; run = true; take = true; finish = true; push = true }
+
+-- the logs have lines of their actors, a gap before each and one behind the last, the history has room for all steps, and
+-- the choices are all that a scenario has
 pub record IsPlan (p : Plan) : Type 0 where
   pub lines : (x : Actor) → AreLinesOf (length p.start.scenario.programs) x (log_of x p.logs)
-  pub room : length p.start.entries + line_count p.logs ≤ max_choices
+  pub gaps : (x : Actor) → length (gaps_of x p.logs.gaps) ≡ length (log_of x p.logs) + 1
+  pub room : length p.start.entries + step_count p.logs ≤ max_choices
+  pub choices : p.choices.items ≡ considered all_kinds (length p.start.scenario.programs)
 
--- choices go along the logs from the start
-abbrev pub IsWayOf : Plan → List Choice → Type 0
-IsWayOf p cs = IsWay p.start.scenario p.logs at_start p.start.state cs
+-- choices go along the logs from the start to cursors
+abbrev pub IsWayOf : Plan → List Choice → Cursors → Type 0
+IsWayOf p cs to = IsWay p.start.scenario p.logs at_start p.start.state cs to
 
 -- a furthest way: no way matches all lines, and none leads further
-pub record IsFurthestWay (p : Plan) (cs : List Choice) : Type 0 where
-  pub way : IsWayOf p cs
-  pub none : (ds : List Choice) → IsWayOf p ds → AreMatched p.logs (cursors_after at_start ds) → ⊥
-  pub most : (ds : List Choice) → IsWayOf p ds → IsNoFurther (cursors_after at_start ds) (cursors_after at_start cs)
+pub record IsFurthestWay (p : Plan) (cs : List Choice) (to : Cursors) : Type 0 where
+  pub way : IsWayOf p cs to
+  pub none : (ds : List Choice) → (end : Cursors) → IsWayOf p ds end → AreMatched p.logs end → ⊥
+  pub most : (ds : List Choice) → (end : Cursors) → IsWayOf p ds end → IsNoFurther end to
 
 -- ---- what it has reached
 
 -- the cursors where the path at a place leads
-abbrev pub cursors_at : List (List Choice) → ℕ → Cursors
-cursors_at ps i = cursors_after at_start (path_at ps i)
+abbrev pub cursors_at : Reached → ℕ → Cursors
+cursors_at r i = cursors_in r.cursors.items i
 
--- the cursors that are kept of the path at a place
-abbrev pub kept_at : Reached → ℕ → Cursors
-kept_at r i = cursors_in r.cursors.items i
-
--- a path leads to this state, with these cursors
-abbrev pub IsKnown : History → List (List Choice) → Cursors → State → Type 0
-IsKnown h ps cursors s = (i : ℕ) × (i < length ps) × (cursors_at ps i ≡ cursors) × (reached h (path_at ps i) ≡ s)
+-- a path leads to this state, with cursors that have these lines matched and need no more missing steps
+abbrev pub IsKnown : History → Reached → Cursors → State → Type 0
+IsKnown h r cursors s =
+    (i : ℕ) × (i < length r.visited) × NeedNoMore (cursors_at r i) cursors × (reached h (path_at r.visited i) ≡ s)
 
 -- all numbers of a list are below n
 abbrev pub AreBelow : List ℕ → ℕ → Type 0
@@ -66,9 +73,9 @@ pub record IsReached (p : Plan) (r : Reached) : Type 0 where
   pub some : 0 < length r.visited
   pub few : length r.visited < 2 ^ 32
   pub first : path_at r.visited 0 ≡ []
-  pub ways : (i : ℕ) → i < length r.visited → IsWayOf p (path_at r.visited i)
+  pub start : cursors_at r 0 ≡ at_start
+  pub ways : (i : ℕ) → i < length r.visited → IsWayOf p (path_at r.visited i) (cursors_at r i)
   pub many : length r.cursors.items ≡ length r.visited
-  pub kept : (i : ℕ) → i < length r.visited → kept_at r i ≡ cursors_at r.visited i
   pub there : AreBelow r.todo.items (length r.visited)
 
 -- a search is under way
@@ -78,44 +85,56 @@ pub record IsUnderWay (p : Plan) (r : Reached) : Type 0 where
 
 -- no path leads further than that at a place
 abbrev pub IsFurthestPath : Reached → ℕ → Type 0
-IsFurthestPath r best = (i : ℕ) → i < length r.cursors.items → IsNoFurther (kept_at r i) (kept_at r best)
+IsFurthestPath r best = (i : ℕ) → i < length r.cursors.items → IsNoFurther (cursors_at r i) (cursors_at r best)
+
+-- the paths that were reached are still at their places, with their cursors
+pub record Extends (old new : Reached) : Type 0 where
+  pub paths : Grows old.visited new.visited
+  pub cursors : (i : ℕ) → i < length old.visited → cursors_at new i ≡ cursors_at old i
 
 -- ---- one choice more
 
 -- what comes of a choice where the path at a place leads
-abbrev pub entry_by : History → List (List Choice) → ℕ → Choice → Entry
-entry_by h ps i c = entry_at h.scenario (reached h (path_at ps i)) c
+abbrev pub entry_by : History → Reached → ℕ → Choice → Entry
+entry_by h r i c = entry_at h.scenario (reached h (path_at r.visited i)) c
 
 -- the state after a choice where the path at a place leads
-abbrev pub state_by : History → List (List Choice) → ℕ → Choice → State
-state_by h ps i c = (step h.scenario c (reached h (path_at ps i))).after
-
--- the cursors after a choice where the path at a place leads
-abbrev pub cursors_by : List (List Choice) → ℕ → Choice → Cursors
-cursors_by ps i c = advanced (actor_of c) (cursors_at ps i)
+abbrev pub state_by : History → Reached → ℕ → Choice → State
+state_by h r i c = (step h.scenario c (reached h (path_at r.visited i))).after
 
 -- where the path at a place leads, the next line of an actor does not fit, or a path leads where its choice does
-abbrev pub IsMet : History → Logs → List (List Choice) → ℕ → Actor → Type 0
-IsMet h logs ps i x = (c : Choice) → actor_of c ≡ x → HasNext logs (cursors_at ps i) (entry_by h ps i c)
-    → IsKnown h ps (cursors_by ps i c) (state_by h ps i c)
+abbrev pub IsMet : History → Logs → Reached → ℕ → Actor → Type 0
+IsMet h logs r i x = (c : Choice) → actor_of c ≡ x → HasNext logs (cursors_at r i) (entry_by h r i c)
+    → IsKnown h r (advanced x (cursors_at r i)) (state_by h r i c)
+
+-- where the path at a place leads, a choice may not be that of a missing step, or a path leads where it does
+abbrev pub IsTried : History → Logs → Reached → ℕ → Choice → Type 0
+IsTried h logs r i c = HasGap (actor_of c) logs (cursors_at r i)
+    → IsKnown h r (with_missing (actor_of c) (cursors_at r i)) (state_by h r i c)
+
+-- where the path at a place leads, each choice is tried as that of a missing step
+abbrev pub AreTried : History → Logs → Reached → ℕ → Type 0
+AreTried h logs r i = (c : Choice) → names_below (length h.scenario.programs) c ≡ true → IsTried h logs r i c
 
 -- where the path at a place leads, the next line of each actor is met
-abbrev pub IsExpanded : History → Logs → List (List Choice) → ℕ → Type 0
-IsExpanded h logs ps i = (x : Actor) → IsMet h logs ps i x
+abbrev pub AreMet : History → Logs → Reached → ℕ → Type 0
+AreMet h logs r i = (x : Actor) → IsMet h logs r i x
 
--- the path at a place was followed: it does not match all lines, and the next line of each actor is met
-pub record IsFollowed (h : History) (logs : Logs) (ps : List (List Choice)) (i : ℕ) : Type 0 where
-  pub part : AreMatched logs (cursors_at ps i) → ⊥
-  pub expanded : IsExpanded h logs ps i
+-- the path at a place was followed: it does not match all lines, the next line of each actor is met, and each choice is
+-- tried as that of a missing step
+pub record IsFollowed (h : History) (logs : Logs) (r : Reached) (i : ℕ) : Type 0 where
+  pub part : AreMatched logs (cursors_at r i) → ⊥
+  pub tried : AreTried h logs r i
+  pub met : AreMet h logs r i
 
 -- each path but those that are to do was followed
-abbrev pub AreFollowedBut : History → Logs → List (List Choice) → List ℕ → Type 0
-AreFollowedBut h logs ps todo = (i : ℕ) → i < length ps → Contains todo i ⊎ IsFollowed h logs ps i
+abbrev pub AreFollowedBut : History → Logs → Reached → List ℕ → Type 0
+AreFollowedBut h logs r todo = (i : ℕ) → i < length r.visited → Contains todo i ⊎ IsFollowed h logs r i
 
 -- the last place to do was taken, and each path but it and those to do was followed; or none was, and each path was
 abbrev pub IsTaken : Plan → Reached → Option ℕ → Type 0
-IsTaken p r None = (i : ℕ) → i < length r.visited → IsFollowed p.start p.logs r.visited i
-IsTaken p r (Some at) = (at < length r.visited) × AreFollowedBut p.start p.logs r.visited (r.todo.items ++ at ∷ [])
+IsTaken p r None = (i : ℕ) → i < length r.visited → IsFollowed p.start p.logs r i
+IsTaken p r (Some at) = (at < length r.visited) × AreFollowedBut p.start p.logs r (r.todo.items ++ at ∷ [])
 
 -- each actor has a turn
 abbrev pub HasEachActor : Turns → Type 0
@@ -124,22 +143,22 @@ HasEachActor turns = (x : Actor) → (x ≡ turns.first) ⊎ (x ≡ turns.second
 -- ---- what a part of a search adds
 
 -- a machine that has made one choice more than the path at a place
-pub record IsNext (h : History) (ps : List (List Choice)) (at : ℕ) (c : Choice) (m : History) : Type 0 where
+pub record IsNext (h : History) (r : Reached) (at : ℕ) (c : Choice) (m : History) : Type 0 where
   pub scenario : m.scenario ≡ h.scenario
-  pub state : m.state ≡ state_by h ps at c
-  pub longer : length h.entries + length_at ps at < length m.entries
+  pub state : m.state ≡ state_by h r at c
+  pub longer : length h.entries + length_at r.visited at < length m.entries
 
--- a branch goes on from a path by the next line of an actor, which fits, and a machine has made its choice
-pub record Leads (p : Plan) (r : Reached) (b : Branch) (m : History) : Type 0 where
+-- a branch goes on from a path to cursors, and a machine has made its choice
+pub record GoesOn (p : Plan) (r : Reached) (b : Branch) (to : Cursors) (m : History) : Type 0 where
   pub there : b.from < length r.visited
-  pub line : HasNext p.logs (cursors_at r.visited b.from) (entry_by p.start r.visited b.from b.by)
-  pub next : IsNext p.start r.visited b.from b.by m
+  pub leads : Leads (length p.start.scenario.programs) p.logs (cursors_at r b.from) (entry_by p.start r b.from b.by) to
+  pub next : IsNext p.start r b.from b.by m
 
 -- what was reached went from old to new: each new path is to be followed, and each that was to be still is
 pub record Adds (p : Plan) (old new : Reached) (machines : Shelf) : Type 0 where
   pub reached : IsReached p new
   pub shelf : IsShelf p.start new.visited machines
-  pub grows : Grows old.visited new.visited
+  pub extends : Extends old new
   pub more : (i : ℕ) → length old.visited ≤ i → i < length new.visited → Contains new.todo.items i
   pub still : (i : ℕ) → Contains old.todo.items i → Contains new.todo.items i
 
@@ -147,12 +166,12 @@ pub record Adds (p : Plan) (old new : Reached) (machines : Shelf) : Type 0 where
 
 -- what came of following the paths: one matches all lines, or each was followed, or the search gave up
 abbrev pub Settles : Plan → Reached → Followed → Type 0
-Settles p r (followed.Whole i) = (i < length r.visited) × AreMatched p.logs (cursors_at r.visited i)
-Settles p r followed.Nowhere = (i : ℕ) → i < length r.visited → IsFollowed p.start p.logs r.visited i
+Settles p r (followed.Whole i) = (i < length r.visited) × AreMatched p.logs (cursors_at r i)
+Settles p r followed.Nowhere = (i : ℕ) → i < length r.visited → IsFollowed p.start p.logs r i
 Settles p r followed.Spent = Unit {0}
 
 -- what each answer says of the ways along the logs
 abbrev pub AnswersFor : Plan → OrderAnswer → Type 0
-AnswersFor p (answer.Found v) = IsWayOf p v.items × AreMatched p.logs (cursors_after at_start v.items)
-AnswersFor p (answer.Nowhere v) = IsFurthestWay p v.items
-AnswersFor p (answer.Spent v) = IsWayOf p v.items
+AnswersFor p (answer.Found v) = (to : Cursors) × IsWayOf p v.items to × AreMatched p.logs to
+AnswersFor p (answer.Nowhere v) = (to : Cursors) × IsFurthestWay p v.items to
+AnswersFor p (answer.Spent v) = (to : Cursors) × IsWayOf p v.items to

@@ -1,5 +1,5 @@
--- Ways: choices that go along the logs.
-use Rattle.std.specs.Prelude.{◌≡◌, ◌≤◌, ◌+◌, ℕ, List, [], ◌∷◌, Some, true, length, slice_get, slice_index_or}
+-- Ways: choices that go along the logs, and in their gaps.
+use Rattle.std.specs.Prelude.{◌≡◌, ◌≤◌, ◌<◌, ◌⊎◌, ◌+◌, ℕ, List, [], ◌∷◌, Some, true, length, slice_get, slice_index_or}
 use Rattle.zy_isa.specs.declared.node.Actor.{Actor}
 use Rattle.zy_isa.specs.declared.node.Actor.TheVariants.{C, A, B}
 use Rattle.zy_isa.specs.declared.choice.Choice.{Choice}
@@ -10,7 +10,10 @@ use Rattle.zy_table.specs.State.{State}
 use Rattle.zy_table.specs.Play.{step}
 use Rattle.zy_logs.specs.declared.log_line.LogLine.{LogLine}
 use Rattle.zy_order.specs.declared.logs.Logs.{Logs}
+use Rattle.zy_order.specs.declared.cursors.Cursor.{Cursor}
 use Rattle.zy_order.specs.declared.cursors.Cursors.{Cursors}
+use Rattle.zy_order.specs.declared.gaps.Gaps.{Gaps}
+use Rattle.zy_order.specs.Gaps.{gaps_of, gap_count}
 use Rattle.zy_logs.specs.Agrees.{Agrees}
 use Rattle.zy_order.specs.Orders.{entry_at, lines_of}
 
@@ -20,15 +23,35 @@ log_of C logs = logs.c.items
 log_of A logs = logs.a.items
 log_of B logs = logs.b.items
 
+-- how far an actor is in its log
+abbrev pub cursor_of : Actor → Cursors → Cursor
+cursor_of C cursors = cursors.c
+cursor_of A cursors = cursors.a
+cursor_of B cursors = cursors.b
+
 -- how many lines of an actor are matched, which is the index of its next line
 abbrev pub cursor : Actor → Cursors → ℕ
-cursor C cursors = cursors.c
-cursor A cursors = cursors.a
-cursor B cursors = cursors.b
+cursor x cursors = (cursor_of x cursors).lines
 
--- no line is matched
+-- no line is matched, and no gap is filled
+abbrev pub log_start : Cursor
+log_start = record { lines = 0; missing = 0 }
+
+-- the same of each actor
 abbrev pub at_start : Cursors
-at_start = record { c = 0; a = 0; b = 0 }
+at_start = record { c = log_start; a = log_start; b = log_start }
+
+-- how many steps may be missing where a cursor is
+abbrev pub gap_at : List ℕ → Cursor → ℕ
+gap_at gaps cursor = slice_index_or gaps cursor.lines 0
+
+-- one line more is matched
+abbrev pub passed : Cursor → Cursor
+passed cursor = record { lines = cursor.lines + 1; missing = 0 }
+
+-- one missing step more is made
+abbrev pub filled : Cursor → Cursor
+filled cursor = record { lines = cursor.lines; missing = cursor.missing + 1 }
 
 -- the cursors at a place of a list
 abbrev pub cursors_in : List Cursors → ℕ → Cursors
@@ -36,38 +59,60 @@ cursors_in list at = slice_index_or list at at_start
 
 -- the cursors where one line more of an actor is matched
 abbrev pub advanced : Actor → Cursors → Cursors
-advanced C cursors = record { c = cursors.c + 1; a = cursors.a; b = cursors.b }
-advanced A cursors = record { c = cursors.c; a = cursors.a + 1; b = cursors.b }
-advanced B cursors = record { c = cursors.c; a = cursors.a; b = cursors.b + 1 }
+advanced C cursors = record { c = passed cursors.c; a = cursors.a; b = cursors.b }
+advanced A cursors = record { c = cursors.c; a = passed cursors.a; b = cursors.b }
+advanced B cursors = record { c = cursors.c; a = cursors.a; b = passed cursors.b }
 
--- how many lines are matched
-abbrev pub matched : Cursors → ℕ
-matched cursors = cursors.c + (cursors.a + cursors.b)
+-- the cursors where an actor has made one missing step more
+abbrev pub with_missing : Actor → Cursors → Cursors
+with_missing C cursors = record { c = filled cursors.c; a = cursors.a; b = cursors.b }
+with_missing A cursors = record { c = cursors.c; a = filled cursors.a; b = cursors.b }
+with_missing B cursors = record { c = cursors.c; a = cursors.a; b = filled cursors.b }
 
 -- how many lines of A and B together are matched
 abbrev pub of_nodes : Cursors → ℕ
-of_nodes cursors = cursors.a + cursors.b
+of_nodes cursors = cursors.a.lines + cursors.b.lines
 
 -- cursors are no further than others: no more lines of A and B are matched and, where as many are, no fewer of the client
 pub record IsNoFurther (cursors others : Cursors) : Type 0 where
   pub nodes : of_nodes cursors ≤ of_nodes others
-  pub client : of_nodes cursors ≡ of_nodes others → others.c ≤ cursors.c
+  pub client : of_nodes cursors ≡ of_nodes others → others.c.lines ≤ cursors.c.lines
+
+-- a cursor has the same lines matched as another, and needs no more missing steps behind them
+pub record NeedsNoMore (cursor other : Cursor) : Type 0 where
+  pub lines : cursor.lines ≡ other.lines
+  pub missing : cursor.missing ≤ other.missing
+
+-- the same of each actor
+pub record NeedNoMore (cursors others : Cursors) : Type 0 where
+  pub of_c : NeedsNoMore cursors.c others.c
+  pub of_a : NeedsNoMore cursors.a others.a
+  pub of_b : NeedsNoMore cursors.b others.b
 
 -- how many lines the logs have
 abbrev pub line_count : Logs → ℕ
 line_count logs = length logs.c.items + (length logs.a.items + length logs.b.items)
 
+-- how many steps the logs have room for: one for each line, and those of the gaps
+abbrev pub step_count : Logs → ℕ
+step_count logs = line_count logs + gap_count logs.gaps
+
 -- all lines are matched
 pub record AreMatched (logs : Logs) (cursors : Cursors) : Type 0 where
-  pub of_c : cursors.c ≡ length logs.c.items
-  pub of_a : cursors.a ≡ length logs.a.items
-  pub of_b : cursors.b ≡ length logs.b.items
+  pub of_c : cursors.c.lines ≡ length logs.c.items
+  pub of_a : cursors.a.lines ≡ length logs.a.items
+  pub of_b : cursors.b.lines ≡ length logs.b.items
 
--- of each actor no more lines are matched than it has
+-- no more lines are matched than a log has, and no more steps are made in a gap than may be missing there
+pub record IsIn (log : List LogLine) (gaps : List ℕ) (cursor : Cursor) : Type 0 where
+  pub lines : cursor.lines ≤ length log
+  pub missing : cursor.missing ≤ gap_at gaps cursor
+
+-- the same of each actor
 pub record IsWithin (logs : Logs) (cursors : Cursors) : Type 0 where
-  pub of_c : cursors.c ≤ length logs.c.items
-  pub of_a : cursors.a ≤ length logs.a.items
-  pub of_b : cursors.b ≤ length logs.b.items
+  pub of_c : IsIn logs.c.items logs.gaps.c.items cursors.c
+  pub of_a : IsIn logs.a.items logs.gaps.a.items cursors.a
+  pub of_b : IsIn logs.b.items logs.gaps.b.items cursors.b
 
 -- the next line of the actor that made a step is of the step's choice, and agrees with what came of it
 pub record HasNext (logs : Logs) (cursors : Cursors) (e : Entry) : Type 0 where
@@ -76,24 +121,34 @@ pub record HasNext (logs : Logs) (cursors : Cursors) (e : Entry) : Type 0 where
   pub choice : line.choice ≡ e.choice
   pub agrees : Agrees line e
 
--- choices go along the logs: the logs have each of their steps next, one after another
-abbrev pub IsWay : Scenario → Logs → Cursors → State → List Choice → Type 0
-IsWay sc logs cursors s [] = Unit {0}
-IsWay sc logs cursors s (c ∷ cs) = HasNext logs cursors (entry_at sc s c)
-    × IsWay sc logs (advanced (actor_of c) cursors) (step sc c s).after cs
+-- one step more may be missing where an actor is
+abbrev pub HasGap : Actor → Logs → Cursors → Type 0
+HasGap x logs cursors = (cursor_of x cursors).missing < gap_at (gaps_of x logs.gaps) (cursor_of x cursors)
 
--- the cursors after choices
-abbrev pub cursors_after : Cursors → List Choice → Cursors
-cursors_after cursors [] = cursors
-cursors_after cursors (c ∷ cs) = cursors_after (advanced (actor_of c) cursors) cs
+-- a choice may be that of a missing step
+pub record MayBeMissing (count : ℕ) (logs : Logs) (cursors : Cursors) (c : Choice) : Type 0 where
+  pub named : names_below count c ≡ true
+  pub gap : HasGap (actor_of c) logs cursors
+
+-- a step leads from cursors to others: it is the next line's, or it is missing
+abbrev pub Leads : ℕ → Logs → Cursors → Entry → Cursors → Type 0
+Leads count logs cursors e to = (HasNext logs cursors e × (to ≡ advanced (actor_of e.choice) cursors))
+    ⊎ (MayBeMissing count logs cursors e.choice × (to ≡ with_missing (actor_of e.choice) cursors))
+
+-- choices go along the logs to cursors, one step after another
+abbrev pub IsWay : Scenario → Logs → Cursors → State → List Choice → Cursors → Type 0
+IsWay sc logs cursors s [] to = cursors ≡ to
+IsWay sc logs cursors s (c ∷ cs) to = (next : Cursors) × Leads (length sc.programs) logs cursors (entry_at sc s c) next
+    × IsWay sc logs next (step sc c s).after cs to
 
 -- each line of a list is of a choice of the actor, and the transaction that it names is there
 abbrev pub AreLinesOf : ℕ → Actor → List LogLine → Type 0
 AreLinesOf count x lines = (i : ℕ) → (line : LogLine) → slice_get lines i ≡ Some line
     → (actor_of line.choice ≡ x) × (names_below count line.choice ≡ true)
 
--- the logs have the lines of their actors
-pub record AreLogs (lines : List LogLine) (logs : Logs) : Type 0 where
+-- the logs have the lines of their actors, and the gaps
+pub record AreLogs (lines : List LogLine) (gaps : Gaps) (logs : Logs) : Type 0 where
   pub of_c : logs.c.items ≡ lines_of C lines
   pub of_a : logs.a.items ≡ lines_of A lines
   pub of_b : logs.b.items ≡ lines_of B lines
+  pub of_gaps : logs.gaps ≡ gaps

@@ -4,15 +4,63 @@ ghost use Rattle.zy_order.specs.Ways as spec;
 
 use zy_isa::Actor;
 
-/// How many lines of each actor's log are matched, which is the index of its next line.
+/// How far an actor is in its log.
+#[derive(Clone, Copy, PartialEq, Eq)]
+pub(crate) struct Cursor {
+    /// How many lines are matched, which is the index of the next one.
+    pub lines: u16,
+    /// How many steps that the log lacks were made after them.
+    pub missing: u16,
+}
+
+impl Cursor {
+    /// No line is matched, and no step was made.
+    fn at_start() -> Cursor
+        ensures { result ≡ spec.log_start }
+    {
+        Cursor {
+            lines: 0,
+            missing: 0,
+        }
+    }
+
+    /// One line more is matched.
+    fn passed(self) -> Cursor
+        requires { self.lines < 65535 }
+        ensures { result ≡ spec.passed self }
+    {
+        Cursor {
+            lines: self.lines + 1,
+            missing: 0,
+        }
+    }
+
+    /// One step more was made that the log lacks.
+    fn filled(self) -> Cursor
+        requires { self.missing < 65535 }
+        ensures { result ≡ spec.filled self }
+    {
+        Cursor {
+            lines: self.lines,
+            missing: self.missing + 1,
+        }
+    }
+
+    /// A number that differs from those of other cursors.
+    pub(crate) fn code(self) -> u64 {
+        (u64::from(self.lines) << 16) ^ u64::from(self.missing)
+    }
+}
+
+/// How far each actor is in its log.
 #[derive(Clone, Copy, PartialEq, Eq)]
 pub(crate) struct Cursors {
-    /// Of the client's log.
-    pub c: u16,
-    /// Of the log of A.
-    pub a: u16,
-    /// Of the log of B.
-    pub b: u16,
+    /// The client.
+    pub c: Cursor,
+    /// A.
+    pub a: Cursor,
+    /// B.
+    pub b: Cursor,
 }
 
 impl Cursors {
@@ -20,12 +68,16 @@ impl Cursors {
     pub(crate) fn at_start() -> Cursors
         ensures { result ≡ spec.at_start }
     {
-        Cursors { c: 0, a: 0, b: 0 }
+        Cursors {
+            c: Cursor::at_start(),
+            a: Cursor::at_start(),
+            b: Cursor::at_start(),
+        }
     }
 
     /// The cursor of an actor.
-    pub(crate) fn of(self, actor: Actor) -> u16
-        ensures { result ≡ spec.cursor actor self }
+    pub(crate) fn of(self, actor: Actor) -> Cursor
+        ensures { result ≡ spec.cursor_of actor self }
     {
         match actor {
             Actor::C => self.c,
@@ -41,19 +93,43 @@ impl Cursors {
     {
         match actor {
             Actor::C => Cursors {
-                c: self.c + 1,
+                c: self.c.passed(),
                 a: self.a,
                 b: self.b,
             },
             Actor::A => Cursors {
                 c: self.c,
-                a: self.a + 1,
+                a: self.a.passed(),
                 b: self.b,
             },
             Actor::B => Cursors {
                 c: self.c,
                 a: self.a,
-                b: self.b + 1,
+                b: self.b.passed(),
+            },
+        }
+    }
+
+    /// The cursors where an actor has made one step more that its log lacks.
+    pub(crate) fn with_missing(self, actor: Actor) -> Cursors
+        requires { (spec.cursor_of actor self).missing < 65535 }
+        ensures { result ≡ spec.with_missing actor self }
+    {
+        match actor {
+            Actor::C => Cursors {
+                c: self.c.filled(),
+                a: self.a,
+                b: self.b,
+            },
+            Actor::A => Cursors {
+                c: self.c,
+                a: self.a.filled(),
+                b: self.b,
+            },
+            Actor::B => Cursors {
+                c: self.c,
+                a: self.a,
+                b: self.b.filled(),
             },
         }
     }
@@ -69,7 +145,7 @@ impl Cursors {
     fn of_nodes(self) -> u32
         ensures { result ≡ spec.of_nodes self }
     {
-        u32::from(self.a) + u32::from(self.b)
+        u32::from(self.a.lines) + u32::from(self.b.lines)
     }
 
     /// Whether these cursors are further than those: more lines of A and B are matched, or as many and fewer of the
@@ -79,7 +155,7 @@ impl Cursors {
         ensures no { result ≡ false → spec.IsNoFurther self other }
     {
         if self.of_nodes() == other.of_nodes() {
-            self.c < other.c
+            self.c.lines < other.c.lines
         } else {
             other.of_nodes() < self.of_nodes()
         }

@@ -1,43 +1,21 @@
-//! What the next lines lead to where a path leads.
+//! What the next lines and missing steps lead to where a path leads.
 ghost use Rattle.std.specs.Prelude.{◌≡◌, ◌<◌, IfOk, OnOk, true, length};
-ghost use Rattle.zy_isa.specs.Choices.{names_below};
 ghost use Rattle.zy_isa.specs.Limits.{max_choices};
-ghost use Rattle.zy_table.specs.Play as table;
 ghost use Rattle.zy_search.specs.Visits.{IsHere, IsShelf};
-ghost use Rattle.zy_order.specs.Orders.{entry_at};
 ghost use Rattle.zy_order.specs.Ways.{AreMatched};
-ghost use Rattle.zy_order.specs.Reaches.{cursors_at, IsMet, IsExpanded, IsUnderWay, Adds};
+ghost use Rattle.zy_order.specs.Reaches.{cursors_at, IsMet, AreMet, IsFollowed, IsUnderWay, Adds};
 
+use crate::attempt::attempt;
+use crate::missing::try_each;
 use crate::note::note;
 use crate::plan::Plan;
 use crate::reached::Reached;
 use crate::turns::turns_by;
 use crate::walk::go_to;
-use std::alloc::Global;
-use zy_isa::{Actor, Choice, MAX_CHOICES};
+use zy_isa::{Actor, MAX_CHOICES};
 use zy_machine::{Fault, Machine};
 use zy_search::branch::Branch;
 use zy_search::shelf::Shelf;
-use zy_table::Entry;
-
-/// Makes a choice from the state of a machine, on its twin.
-fn attempt(
-    alloc: Global,
-    here: &Machine,
-    twin: &mut Machine,
-    choice: Choice,
-) -> Result<Entry, Fault>
-    requires same { twin.old.scenario ≡ here.now.scenario }
-    requires named { names_below (length here.now.scenario.programs) choice ≡ true }
-    requires room { length here.now.entries < max_choices }
-    ensures entry { IfOk result (λ e. e ≡ entry_at here.now.scenario here.now.state choice) }
-    ensures state { OnOk result (twin.new.state ≡ (table.step here.now.scenario choice here.now.state).after) }
-    ensures longer { OnOk result (length here.now.entries < length twin.new.entries) }
-    ensures scenario { OnOk result (twin.new.scenario ≡ here.now.scenario) }
-{
-    twin.set_to(alloc, here)?;
-    twin.step(choice)
-}
 
 /// Makes the choice of an actor's next line from the state of a machine where the path at a place leads, and keeps
 /// where it leads if the line agrees with what comes of it. It answers no where there is no room for that.
@@ -57,10 +35,11 @@ fn meet(
     requires room { length here.now.entries < max_choices }
     requires twin { twin.old.scenario ≡ plan.now.start.scenario }
     ensures adds { OnOk result (Adds plan.now reached.old reached.new shelf.new) }
-    ensures met { IfOk result (λ b. b ≡ true → IsMet plan.now.start plan.now.logs reached.new.visited at actor) }
+    ensures met { IfOk result (λ b. b ≡ true → IsMet plan.now.start plan.now.logs reached.new at actor) }
     ensures twin { OnOk result (twin.new.scenario ≡ plan.now.start.scenario) }
 {
-    let Some(line) = plan.logs.next(reached.cursors_at(at), actor) else {
+    let cursors = reached.cursors_at(at);
+    let Some(line) = plan.logs.next(cursors, actor) else {
         return Ok(true);
     };
     let entry = attempt(plan.alloc, here, twin, line.choice)?;
@@ -71,7 +50,15 @@ fn meet(
         from: at,
         by: line.choice,
     };
-    note(plan, reached, shelf, branch, here, twin)
+    note(
+        plan,
+        reached,
+        shelf,
+        branch,
+        cursors.advanced(actor),
+        here,
+        twin,
+    )
 }
 
 /// The same of each actor's next line.
@@ -90,7 +77,7 @@ fn meet_each(
     requires room { length here.now.entries < max_choices }
     requires twin { twin.old.scenario ≡ plan.now.start.scenario }
     ensures adds { OnOk result (Adds plan.now reached.old reached.new shelf.new) }
-    ensures met { IfOk result (λ b. b ≡ true → IsExpanded plan.now.start plan.now.logs reached.new.visited at) }
+    ensures met { IfOk result (λ b. b ≡ true → AreMet plan.now.start plan.now.logs reached.new at) }
     ensures twin { OnOk result (twin.new.scenario ≡ plan.now.start.scenario) }
 {
     let turns = turns_by(&plan.logs, reached.cursors_at(at));
@@ -113,7 +100,7 @@ fn arrive(
 ) -> Result<(), Fault>
     requires at { at < length reached.now.visited }
     requires under_way { IsUnderWay plan.now reached.now }
-    requires part { AreMatched plan.now.logs (cursors_at reached.now.visited at) → ⊥ }
+    requires part { AreMatched plan.now.logs (cursors_at reached.now at) → ⊥ }
     requires shelf { IsShelf plan.now.start reached.now.visited shelf.old }
     requires here { here.old.scenario ≡ plan.now.start.scenario }
     ensures here { OnOk result (IsHere plan.now.start reached.now.visited at here.new) }
@@ -126,8 +113,9 @@ fn arrive(
     go_to(plan, reached, at, here)
 }
 
-/// Makes the choice of each actor's next line from where the path at a place leads. It answers no where there is no
-/// room for what one of them leads to.
+/// Makes each choice that may be that of a missing step, and then that of each actor's next line, from where the path at a
+/// place leads. It answers no where there is no room for what one of them leads to. What the lines lead to is followed
+/// first.
 pub(crate) fn expand(
     plan: &Plan,
     reached: &mut Reached,
@@ -138,15 +126,18 @@ pub(crate) fn expand(
 ) -> Result<bool, Fault>
     requires at { at < length reached.old.visited }
     requires under_way { IsUnderWay plan.now reached.old }
-    requires part { AreMatched plan.now.logs (cursors_at reached.old.visited at) → ⊥ }
+    requires part { AreMatched plan.now.logs (cursors_at reached.old at) → ⊥ }
     requires shelf { IsShelf plan.now.start reached.old.visited shelf.old }
     requires here { here.old.scenario ≡ plan.now.start.scenario }
     requires twin { twin.old.scenario ≡ plan.now.start.scenario }
     ensures adds { OnOk result (Adds plan.now reached.old reached.new shelf.new) }
-    ensures met { IfOk result (λ b. b ≡ true → IsExpanded plan.now.start plan.now.logs reached.new.visited at) }
+    ensures followed { IfOk result (λ b. b ≡ true → IsFollowed plan.now.start plan.now.logs reached.new at) }
     ensures here { OnOk result (here.new.scenario ≡ plan.now.start.scenario) }
     ensures twin { OnOk result (twin.new.scenario ≡ plan.now.start.scenario) }
 {
     arrive(plan, reached, shelf, at, here)?;
+    if !try_each(plan, reached, shelf, at, here, twin)? {
+        return Ok(false);
+    }
     meet_each(plan, reached, shelf, at, here, twin)
 }

@@ -30,7 +30,7 @@ fn next_of(reached: &mut Reached) -> Option<u32>
     ensures paths { reached.new.visited ≡ reached.old.visited }
     ensures reached { (p : APlan) → IsReached p reached.old → IsReached p reached.new }
     ensures taken { (p : APlan) → IsReached p reached.old
-        → AreFollowedBut p.start p.logs reached.old.visited reached.old.todo.items → IsTaken p reached.new result }
+        → AreFollowedBut p.start p.logs reached.old reached.old.todo.items → IsTaken p reached.new result }
 {
     reached.todo.pop()
 }
@@ -45,7 +45,7 @@ fn follow(
     twin: &mut Machine,
 ) -> Result<Followed, Fault>
     requires under_way { IsUnderWay plan.now reached.old }
-    requires followed { AreFollowedBut plan.now.start plan.now.logs reached.old.visited reached.old.todo.items }
+    requires followed { AreFollowedBut plan.now.start plan.now.logs reached.old reached.old.todo.items }
     requires shelf { IsShelf plan.now.start reached.old.visited shelf.old }
     requires here { here.old.scenario ≡ plan.now.start.scenario }
     requires twin { twin.old.scenario ≡ plan.now.start.scenario }

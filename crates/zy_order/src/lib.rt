@@ -2,10 +2,13 @@
 #![tactic(auto)]
 
 pub mod answer;
+mod attempt;
 mod cursors;
 mod expand;
 mod follow;
+pub mod gaps;
 mod logs;
+mod missing;
 mod note;
 pub mod order;
 mod plan;
@@ -13,5 +16,6 @@ mod reached;
 mod turns;
 mod walk;
 
-pub use crate::answer::{OrderAnswer, OrderReport};
+pub use crate::answer::{OrderAnswer, OrderReport, Taken};
+pub use crate::gaps::Gaps;
 pub use zy_logs::LogLine;

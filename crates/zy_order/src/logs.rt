@@ -2,10 +2,13 @@
 ghost use Rattle.std.specs.Prelude.{◌≡◌, ◌≤◌, IfOk, MatchOption, Some, length, slice_get};
 ghost use Rattle.std.specs.Bool.{Decides};
 ghost use Rattle.zy_order.specs.Orders as orders;
+ghost use Rattle.zy_order.specs.Gaps.{gaps_of};
+ghost use Rattle.zy_order.specs.Ways as spec;
 ghost use Rattle.zy_order.specs.Ways.{log_of, cursor, AreLogs, AreMatched};
 ghost use Rattle.zy_threads.specs.Turns as turns;
 
 use crate::cursors::Cursors;
+use crate::gaps::Gaps;
 use std::alloc::{AllocError, Global};
 use zy_isa::{Actor, Choice};
 use zy_logs::LogLine;
@@ -19,6 +22,8 @@ pub(crate) struct Logs {
     pub a: Vec<LogLine>,
     /// That of B.
     pub b: Vec<LogLine>,
+    /// Where steps may be missing from them.
+    pub gaps: Gaps,
 }
 
 /// Whether the choice is the actor's.
@@ -43,13 +48,13 @@ fn lines_of(alloc: Global, lines: &[LogLine], actor: Actor) -> Result<Vec<LogLin
 
 impl Logs {
     /// Splits lines into the logs of their actors.
-    pub(crate) fn split(alloc: Global, lines: &[LogLine]) -> Result<Logs, AllocError>
-        ensures { IfOk result (AreLogs lines.now) }
+    pub(crate) fn split(alloc: Global, lines: &[LogLine], gaps: Gaps) -> Result<Logs, AllocError>
+        ensures { IfOk result (AreLogs lines.now gaps) }
     {
         let c = lines_of(alloc, lines, Actor::C)?;
         let a = lines_of(alloc, lines, Actor::A)?;
         let b = lines_of(alloc, lines, Actor::B)?;
-        Ok(Logs { c, a, b })
+        Ok(Logs { c, a, b, gaps })
     }
 
     /// The next line of an actor, if one is left.
@@ -57,7 +62,7 @@ impl Logs {
         ensures { MatchOption result (length (log_of actor self.now) ≤ cursor actor cursors)
             (λ line. slice_get (log_of actor self.now) (cursor actor cursors) ≡ Some line) }
     {
-        let at = usize::from(cursors.of(actor));
+        let at = usize::from(cursors.of(actor).lines);
         match actor {
             Actor::C => self.c.get(at).copied(),
             Actor::A => self.a.get(at).copied(),
@@ -65,12 +70,32 @@ impl Logs {
         }
     }
 
+    /// How many steps may be missing where an actor is in its log.
+    fn gap_at(&self, cursors: Cursors, actor: Actor) -> u16
+        ensures { result ≡ spec.gap_at (gaps_of actor self.now.gaps) (spec.cursor_of actor cursors) }
+    {
+        let at = usize::from(cursors.of(actor).lines);
+        let gap = match actor {
+            Actor::C => self.gaps.c.get(at),
+            Actor::A => self.gaps.a.get(at),
+            Actor::B => self.gaps.b.get(at),
+        };
+        gap.copied().unwrap_or(0)
+    }
+
+    /// Whether an actor may have made one step more that its log lacks.
+    pub(crate) fn has_gap(&self, cursors: Cursors, actor: Actor) -> bool
+        ensures { Decides result (spec.HasGap actor self.now cursors) }
+    {
+        cursors.of(actor).missing < self.gap_at(cursors, actor)
+    }
+
     /// Whether all lines are matched.
     pub(crate) fn are_matched(&self, cursors: Cursors) -> bool
         ensures { Decides result (AreMatched self.now cursors) }
     {
-        usize::from(cursors.c) == self.c.len()
-            && usize::from(cursors.a) == self.a.len()
-            && usize::from(cursors.b) == self.b.len()
+        usize::from(cursors.c.lines) == self.c.len()
+            && usize::from(cursors.a.lines) == self.a.len()
+            && usize::from(cursors.b.lines) == self.b.len()
     }
 }

@@ -2,7 +2,7 @@
 ghost use Rattle.std.specs.Prelude.{◌≡◌, ◌<◌, ◌+◌, ◌^◌, IfOk, OnOk, None, true, length};
 ghost use Rattle.zy_search.specs.Searches as searches;
 ghost use Rattle.zy_search.specs.Visits.{path_at, IsShelf};
-ghost use Rattle.zy_order.specs.Reaches.{cursors_by, state_by, IsKnown, IsUnderWay, Adds, Leads};
+ghost use Rattle.zy_order.specs.Reaches.{state_by, IsKnown, IsUnderWay, Adds, GoesOn};
 
 use crate::cursors::Cursors;
 use crate::plan::Plan;
@@ -18,7 +18,9 @@ const MOST_PER_DIGEST: u64 = 8;
 
 /// A number that differs for most states and cursors. Nothing is promised of it: a bad one costs time alone.
 pub(crate) fn digest_of(cursors: Cursors, machine: &Machine) -> u64 {
-    let place = (u64::from(cursors.c) << 32) ^ (u64::from(cursors.a) << 16) ^ u64::from(cursors.b);
+    let place = cursors.c.code().rotate_left(40)
+        ^ cursors.a.code().rotate_left(20)
+        ^ cursors.b.code();
     (digest(StatePart::Whole, machine).rotate_left(5) ^ place).wrapping_mul(0x517c_c1b7_2722_0a95)
 }
 
@@ -55,7 +57,7 @@ fn is_known(
 ) -> Result<bool, Fault>
     requires under_way { IsUnderWay plan.now reached.now }
     requires shelf { IsShelf plan.now.start reached.now.visited shelf.old }
-    ensures known { IfOk result (λ b. b ≡ true → IsKnown plan.now.start reached.now.visited cursors
+    ensures known { IfOk result (λ b. b ≡ true → IsKnown plan.now.start reached.now cursors
         machine.now.state) }
     ensures shelf { OnOk result (IsShelf plan.now.start reached.now.visited shelf.new) }
 {
@@ -79,7 +81,7 @@ fn free_under(
 ) -> Result<Option<u64>, Fault>
     requires under_way { IsUnderWay plan.now reached.now }
     requires shelf { IsShelf plan.now.start reached.now.visited shelf.old }
-    ensures known { IfOk result (λ free. free ≡ None → IsKnown plan.now.start reached.now.visited cursors
+    ensures known { IfOk result (λ free. free ≡ None → IsKnown plan.now.start reached.now cursors
         machine.now.state) }
     ensures shelf { OnOk result (IsShelf plan.now.start reached.now.visited shelf.new) }
 {
@@ -96,12 +98,13 @@ fn free_under(
     Ok(Some(first))
 }
 
-/// Keeps the path of a branch, and the twin's machine, which is where it leads.
+/// Keeps the path of a branch with the cursors where it leads, and the twin's machine, which is where it leads.
 fn keep(
     plan: &Plan,
     reached: &mut Reached,
     shelf: &mut Shelf,
     branch: Branch,
+    cursors: Cursors,
     here: &Machine,
     twin: &mut Machine,
     digest: u64,
@@ -109,47 +112,45 @@ fn keep(
     requires room { length reached.old.visited + 1 < 2 ^ 32 }
     requires under_way { IsUnderWay plan.now reached.old }
     requires shelf { IsShelf plan.now.start reached.old.visited shelf.old }
-    requires leads { Leads plan.now reached.old branch twin.old }
+    requires leads { GoesOn plan.now reached.old branch cursors twin.old }
     requires here { here.now.scenario ≡ plan.now.start.scenario }
     ensures adds { OnOk result (Adds plan.now reached.old reached.new shelf.new) }
-    ensures known { OnOk result (IsKnown plan.now.start reached.new.visited
-        (cursors_by reached.old.visited branch.from branch.by)
-        (state_by plan.now.start reached.old.visited branch.from branch.by)) }
+    ensures known { OnOk result (IsKnown plan.now.start reached.new cursors
+        (state_by plan.now.start reached.old branch.from branch.by)) }
     ensures twin { OnOk result (twin.new.scenario ≡ plan.now.start.scenario) }
 {
     let place = reached.visited.len() as u32;
-    reached.push(branch, digest)?;
+    reached.push(branch, cursors, digest)?;
     shelf.put(plan.alloc, place, twin, here)?;
     Ok(())
 }
 
-/// Keeps the path of a branch to the twin's state, unless one that leads there with the same cursors is known. It
+/// Keeps the path of a branch to the twin's state and these cursors, unless one that leads there is known. It
 /// answers no where there is no room for it.
 pub(crate) fn note(
     plan: &Plan,
     reached: &mut Reached,
     shelf: &mut Shelf,
     branch: Branch,
+    cursors: Cursors,
     here: &Machine,
     twin: &mut Machine,
 ) -> Result<bool, Fault>
     requires under_way { IsUnderWay plan.now reached.old }
     requires shelf { IsShelf plan.now.start reached.old.visited shelf.old }
-    requires leads { Leads plan.now reached.old branch twin.old }
+    requires leads { GoesOn plan.now reached.old branch cursors twin.old }
     requires here { here.now.scenario ≡ plan.now.start.scenario }
     ensures adds { OnOk result (Adds plan.now reached.old reached.new shelf.new) }
-    ensures known { IfOk result (λ b. b ≡ true → IsKnown plan.now.start reached.new.visited
-        (cursors_by reached.old.visited branch.from branch.by)
-        (state_by plan.now.start reached.old.visited branch.from branch.by)) }
+    ensures known { IfOk result (λ b. b ≡ true → IsKnown plan.now.start reached.new cursors
+        (state_by plan.now.start reached.old branch.from branch.by)) }
     ensures twin { OnOk result (twin.new.scenario ≡ plan.now.start.scenario) }
 {
-    let cursors = reached.cursors_by(branch);
     let Some(digest) = free_under(plan, reached, shelf, cursors, twin)? else {
         return Ok(true);
     };
     if plan.most as usize <= reached.visited.len() {
         return Ok(false);
     }
-    keep(plan, reached, shelf, branch, here, twin, digest)?;
+    keep(plan, reached, shelf, branch, cursors, here, twin, digest)?;
     Ok(true)
 }

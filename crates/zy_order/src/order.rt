@@ -1,19 +1,25 @@
 //! The search for an order.
 ghost use Rattle.std.specs.Prelude.{◌≡◌, ◌<◌, ◌^◌, IfOk, length};
+ghost use Rattle.zy_search.specs.Choices.{considered};
+ghost use Rattle.zy_order.specs.Reaches as spec;
 ghost use Rattle.zy_order.specs.Answers.{IsInput, IsAnswer};
 ghost use Rattle.zy_order.specs.Ways.{AreLogs, AreMatched};
 ghost use Rattle.zy_order.specs.Reaches.{cursors_at, IsFurthestPath, IsPlan, IsUnderWay, Settles, AnswersFor};
 
-use crate::answer::{OrderAnswer, OrderReport};
+use crate::answer::{OrderAnswer, OrderReport, Taken};
 use crate::cursors::Cursors;
 use crate::follow::{Followed, follow_all};
+use crate::gaps::Gaps;
 use crate::logs::Logs;
 use crate::note::digest_of;
 use crate::plan::Plan;
 use crate::reached::Reached;
-use std::alloc::Global;
+use std::alloc::{AllocError, Global};
+use zy_isa::Choice;
 use zy_logs::LogLine;
 use zy_machine::{Fault, Machine};
+use zy_search::choices::considered;
+use zy_search::kinds::ChoiceKinds;
 
 /// The place of a path that leads as far as any.
 fn furthest(reached: &Reached) -> u32
@@ -31,43 +37,60 @@ fn furthest(reached: &Reached) -> u32
     best
 }
 
-/// The answer where the path at a place matches all lines.
-fn found(plan: &Plan, reached: &Reached, at: u32) -> Result<OrderAnswer, Fault>
+/// The report of an answer that has the path at a place.
+fn report_of(reached: &Reached, at: u32, answer: OrderAnswer) -> OrderReport
+    requires { at < length reached.now.cursors.items }
+    ensures { result.answer ≡ answer }
+{
+    let Cursors { c, a, b } = reached.cursors_at(at);
+    OrderReport {
+        answer,
+        states: reached.visited.len(),
+        taken: Taken {
+            c: usize::from(c.lines),
+            a: usize::from(a.lines),
+            b: usize::from(b.lines),
+        },
+    }
+}
+
+/// The report where the path at a place matches all lines.
+fn found(plan: &Plan, reached: &Reached, at: u32) -> Result<OrderReport, Fault>
     requires under_way { IsUnderWay plan.now reached.now }
     requires there { at < length reached.now.visited }
-    requires whole { AreMatched plan.now.logs (cursors_at reached.now.visited at) }
-    ensures { IfOk result (AnswersFor plan.now) }
+    requires whole { AreMatched plan.now.logs (cursors_at reached.now at) }
+    ensures { IfOk result (λ r. AnswersFor plan.now r.answer) }
 {
     let path = reached.path(plan.alloc, at)?;
-    Ok(OrderAnswer::Found(path))
+    Ok(report_of(reached, at, OrderAnswer::Found(path)))
 }
 
-/// The answer where each path was followed, and none matches all lines.
-fn nowhere(plan: &Plan, reached: &Reached) -> Result<OrderAnswer, Fault>
+/// The report where each path was followed, and none matches all lines.
+fn nowhere(plan: &Plan, reached: &Reached) -> Result<OrderReport, Fault>
     requires under_way { IsUnderWay plan.now reached.now }
     requires followed { Settles plan.now reached.now Followed.Nowhere }
-    ensures { IfOk result (AnswersFor plan.now) }
+    ensures { IfOk result (λ r. AnswersFor plan.now r.answer) }
 {
     let at = furthest(reached);
     let path = reached.path(plan.alloc, at)?;
-    Ok(OrderAnswer::Nowhere(path))
+    Ok(report_of(reached, at, OrderAnswer::Nowhere(path)))
 }
 
-/// The answer where there is one state too many.
-fn spent(plan: &Plan, reached: &Reached) -> Result<OrderAnswer, Fault>
+/// The report where there is one state too many.
+fn spent(plan: &Plan, reached: &Reached) -> Result<OrderReport, Fault>
     requires { IsUnderWay plan.now reached.now }
-    ensures { IfOk result (AnswersFor plan.now) }
+    ensures { IfOk result (λ r. AnswersFor plan.now r.answer) }
 {
     let at = furthest(reached);
     let path = reached.path(plan.alloc, at)?;
-    Ok(OrderAnswer::Spent(path))
+    Ok(report_of(reached, at, OrderAnswer::Spent(path)))
 }
 
-/// The answer, by what came of following the paths.
-fn answer_by(plan: &Plan, reached: &Reached, followed: Followed) -> Result<OrderAnswer, Fault>
+/// The report, by what came of following the paths.
+fn report_by(plan: &Plan, reached: &Reached, followed: Followed) -> Result<OrderReport, Fault>
     requires under_way { IsUnderWay plan.now reached.now }
     requires settles { Settles plan.now reached.now followed }
-    ensures { IfOk result (AnswersFor plan.now) }
+    ensures { IfOk result (λ r. AnswersFor plan.now r.answer) }
 {
     match followed {
         Followed::Whole(at) => found(plan, reached, at),
@@ -76,7 +99,7 @@ fn answer_by(plan: &Plan, reached: &Reached, followed: Followed) -> Result<Order
     }
 }
 
-/// The answer to a plan, and how many states were reached.
+/// The answer to a plan, with its numbers.
 fn report(plan: &Plan) -> Result<OrderReport, Fault>
     requires { IsPlan plan.now }
     ensures { IfOk result (λ r. AnswersFor plan.now r.answer) }
@@ -84,42 +107,71 @@ fn report(plan: &Plan) -> Result<OrderReport, Fault>
     let first = digest_of(Cursors::at_start(), &plan.start);
     let mut reached = Reached::new(plan.alloc, first)?;
     let followed = follow_all(plan, &mut reached)?;
-    let answer = answer_by(plan, &reached, followed)?;
-    Ok(OrderReport {
-        answer,
-        states: reached.visited.len(),
-    })
+    report_by(plan, &reached, followed)
+}
+
+/// All kinds of choices: a step of any kind may be missing.
+fn all_kinds() -> ChoiceKinds
+    ensures { result ≡ spec.all_kinds }
+{
+    ChoiceKinds {
+        start: true,
+        begin: true,
+        kill: true,
+        run: true,
+        take: true,
+        finish: true,
+        push: true,
+    }
+}
+
+/// All choices of a machine's scenario.
+fn all_choices(alloc: Global, start: &Machine) -> Result<Vec<Choice>, AllocError>
+    ensures { IfOk result (λ v. v.items ≡ considered spec.all_kinds (length start.now.scenario.programs)) }
+{
+    let programs = start.scenario().programs();
+    considered(alloc, all_kinds(), programs.len() as u8)
 }
 
 /// What a search goes by.
-fn plan_from(alloc: Global, start: &Machine, lines: &[LogLine], most: u32) -> Result<Plan, Fault>
-    requires { IsInput start.now lines.now }
+fn plan_from(
+    alloc: Global,
+    start: &Machine,
+    lines: &[LogLine],
+    gaps: Gaps,
+    most: u32,
+) -> Result<Plan, Fault>
+    requires { IsInput start.now lines.now gaps }
     ensures plan { IfOk result IsPlan }
     ensures start { IfOk result (λ p. p.start ≡ start.now) }
-    ensures logs { IfOk result (λ p. AreLogs lines.now p.logs) }
+    ensures logs { IfOk result (λ p. AreLogs lines.now gaps p.logs) }
 {
-    let logs = Logs::split(alloc, lines)?;
+    let logs = Logs::split(alloc, lines, gaps)?;
+    let choices = all_choices(alloc, start)?;
     let start = start.copy(alloc)?.share(alloc)?;
     Ok(Plan {
         alloc,
         start,
         logs,
+        choices,
         most,
     })
 }
 
-/// Looks for an order of the lines of three logs, one for each actor, in which each line agrees with what comes of its
-/// choice, where the choices are made from a machine's state. The logs are mixed in any way: only the order of each
-/// actor's own lines counts. The search goes depth first, and gives up where it would reach more states than `most`.
+/// Looks for an order of the lines of three logs, one for each actor, and of steps that are missing from the logs, in which
+/// each line agrees with what comes of its choice, where the choices are made from a machine's state. The logs are mixed in
+/// any way: only the order of each actor's own lines counts. The gaps say how many steps may be missing, and where. The
+/// search goes depth first, and gives up where it would reach more states than `most`.
 pub fn order(
     alloc: Global,
     start: &Machine,
     lines: &[LogLine],
+    gaps: Gaps,
     most: u32,
 ) -> Result<OrderReport, Fault>
-    requires { IsInput start.now lines.now }
-    ensures { IfOk result (λ r. IsAnswer start.now lines.now r.answer) }
+    requires { IsInput start.now lines.now gaps }
+    ensures { IfOk result (λ r. IsAnswer start.now lines.now gaps r.answer) }
 {
-    let plan = plan_from(alloc, start, lines, most)?;
+    let plan = plan_from(alloc, start, lines, gaps, most)?;
     report(&plan)
 }

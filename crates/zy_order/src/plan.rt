@@ -2,6 +2,7 @@
 
 use crate::logs::Logs;
 use std::alloc::Global;
+use zy_isa::Choice;
 use zy_machine::Machine;
 
 /// Where a search begins, the logs, and the most states that it may reach.
@@ -13,6 +14,8 @@ pub(crate) struct Plan {
     pub start: Machine,
     /// The logs.
     pub logs: Logs,
+    /// All choices of the scenario.
+    pub choices: Vec<Choice>,
     /// The most states that it may reach, with that of the start.
     pub most: u32,
 }

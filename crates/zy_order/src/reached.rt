@@ -1,8 +1,7 @@
 //! What a search has reached.
 ghost use Rattle.std.specs.Prelude.{◌≡◌, ◌<◌, ◌+◌, ◌^◌, ◌++◌, ◌∷◌, [], IfOk, OnOk, length};
-ghost use Rattle.zy_isa.specs.Choices.{actor_of};
 ghost use Rattle.zy_search.specs.Visits.{path_at};
-ghost use Rattle.zy_order.specs.Ways.{advanced, at_start, cursor, cursors_in};
+ghost use Rattle.zy_order.specs.Ways.{at_start, cursors_in};
 
 use crate::cursors::Cursors;
 use std::alloc::{AllocError, Global};
@@ -49,29 +48,22 @@ impl Reached {
         self.cursors[at as usize]
     }
 
-    /// The cursors where a branch leads.
-    pub(crate) fn cursors_by(&self, branch: Branch) -> Cursors
-        requires from { branch.from < length self.now.cursors.items }
-        requires few { cursor (actor_of branch.by) (cursors_in self.now.cursors.items branch.from) < 65535 }
-        ensures { result ≡ advanced (actor_of branch.by) (cursors_in self.now.cursors.items branch.from) }
-    {
-        self.cursors_at(branch.from).advanced(branch.by.actor())
-    }
-
-    /// Adds the path of a branch, under the digest of where it leads. It is the next one to follow.
-    pub(crate) fn push(&mut self, branch: Branch, digest: u64) -> Result<(), AllocError>
+    /// Adds the path of a branch, with the cursors where it leads and under the digest of that. It is the next one to
+    /// follow.
+    pub(crate) fn push(
+        &mut self,
+        branch: Branch,
+        cursors: Cursors,
+        digest: u64,
+    ) -> Result<(), AllocError>
         requires from { branch.from < length self.old.visited }
-        requires many { length self.old.cursors.items ≡ length self.old.visited }
         requires room { length self.old.visited + 1 < 2 ^ 32 }
-        requires few { cursor (actor_of branch.by) (cursors_in self.old.cursors.items branch.from) < 65535 }
         ensures paths { OnOk result (self.new.visited
             ≡ self.old.visited ++ (path_at self.old.visited branch.from ++ branch.by ∷ []) ∷ []) }
-        ensures cursors { OnOk result (self.new.cursors.items ≡ self.old.cursors.items
-            ++ advanced (actor_of branch.by) (cursors_in self.old.cursors.items branch.from) ∷ []) }
+        ensures cursors { OnOk result (self.new.cursors.items ≡ self.old.cursors.items ++ cursors ∷ []) }
         ensures todo { OnOk result (self.new.todo.items ≡ self.old.todo.items ++ length self.old.visited ∷ []) }
     {
         let place = self.visited.len() as u32;
-        let cursors = self.cursors_by(branch);
         self.cursors.push(cursors)?;
         self.todo.push(place)?;
         self.visited.push(branch, digest)

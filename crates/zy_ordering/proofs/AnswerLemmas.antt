@@ -9,14 +9,14 @@ use Rattle.zy_io.specs.declared.writing.TextFault.TheVariants.{Write, Memory}
 use Rattle.zy_isa.specs.Scenario.{Scenario}
 use Rattle.zy_text.specs.Cut.{cut}
 use Rattle.zy_text.specs.Text.{Means}
-use Rattle.zy_logs.specs.declared.log_line.LogLine.{LogLine}
 use Rattle.zy_logs.specs.declared.logs.NumberedLine.{NumberedLine}
 use Rattle.zy_order.specs.declared.answer.OrderAnswer.{OrderAnswer}
 use Rattle.zy_order.specs.declared.answer.OrderReport.{OrderReport}
+use Rattle.zy_logs.specs.Logs.{steps}
+use Rattle.zy_order.specs.declared.gaps.Gaps.{Gaps}
 use Rattle.zy_order.specs.Answers.{IsAnswer}
 use Rattle.zy_engine.specs.declared.faults.BenchFault.{BenchFault}
 use Rattle.zy_engine.specs.declared.faults.BenchFault.TheVariants as bench
-use Rattle.zy_engine.specs.declared.wording.Wording.{Wording}
 use Rattle.zy_engine.specs.Engines.{Streams}
 use Rattle.zy_engine.specs.Faults.{of_reading, of_writing}
 use Rattle.zy_engine.specs.Inputs.{IsTextFault}
@@ -25,20 +25,24 @@ use Rattle.zy_ordering.specs.declared.faults.BelowFault.{BelowFault}
 use Rattle.zy_ordering.specs.declared.faults.BelowFault.TheVariants as misread
 use Rattle.zy_ordering.specs.declared.faults.OrderFault.{OrderFault}
 use Rattle.zy_ordering.specs.declared.faults.OrderFault.TheVariants.{Bench}
-use Rattle.zy_ordering.specs.declared.ordering.OrderOptions.{OrderOptions}
+use Rattle.zy_ordering.specs.declared.options.OrderOptions.{OrderOptions}
 use Rattle.zy_ordering.specs.Faults.{of_below, ReadsInput, failed_reads, failed_writes}
-use Rattle.zy_ordering.specs.Ordering.{below, lines_in, Answers, ConvertsOrder, IsAnswerOf, IsAnswerTo, IsFaultOf, IsTextOf, ReadsBelow, SaysIn}
+use Rattle.zy_ordering.specs.Ordering.{below, Answers, ConvertsOrder, IsAnswerOf, IsAnswerTo, IsFaultOf, IsTextOf, ReadsBelow, SaysIn}
 use Rattle.zy_ordering.specs.Ordering.{WroteOrder, WrotePart, WroteText}
+use Rattle.zy_ordering.specs.Missing.{AreGapsIn}
 use Rattle.zy_ordering.proofs.TakenLemmas.{told_of, of_any}
 
 -- ---- a text of an answer
 
 -- what was written of it, where a call failed, is a part of it
-pub wrote_failed : (w : Wording) (sc : Scenario) (lines : List LogLine) (a : OrderAnswer) (old new : Option (List ℕ)) (before after : ℕ)
-    (f : TextFault) → IsAnswer (history_of None sc) lines a → WroteSome {X = Unit {0}} (IsTextOf w sc a) old new before after (Err f)
-    → WroteOrder (IsAnswerOf w sc lines) old new before after (Err f)
-wrote_failed w sc lines a old new before after Write is wrote = (inr (a, wrote.text, (is, wrote.is), wrote.wrote.0), wrote.wrote.1)
-wrote_failed w sc lines a old new before after Memory is wrote = (inr (a, wrote.text, (is, wrote.is), wrote.wrote.0), wrote.wrote.1)
+pub wrote_failed : (o : OrderOptions) (sc : Scenario) (lines : List NumberedLine) (gaps : Gaps) (a : OrderAnswer) (old new : Option (List ℕ))
+    (before after : ℕ) (f : TextFault) → AreGapsIn o.gap lines gaps → IsAnswer (history_of None sc) (steps lines) gaps a
+    → WroteSome {X = Unit {0}} (IsTextOf o.wording sc a) old new before after (Err f)
+    → WroteOrder (IsAnswerOf o sc lines) old new before after (Err f)
+wrote_failed o sc lines gaps a old new before after Write are is wrote =
+    (inr (a, wrote.text, record { gaps = gaps; are = are; answer = is; is = wrote.is }, wrote.wrote.0), wrote.wrote.1)
+wrote_failed o sc lines gaps a old new before after Memory are is wrote =
+    (inr (a, wrote.text, record { gaps = gaps; are = are; answer = is; is = wrote.is }, wrote.wrote.0), wrote.wrote.1)
 
 -- ---- an input
 
@@ -55,7 +59,7 @@ module _ (o : OrderOptions) (input : List ℕ) (old : Option (List ℕ)) (before
       record { answered = tt; part = inl refl; fault = tt; quiet = λ q. absurd q; writes = omega arith; reads = refl; whole = λ x y read. read.0 }
 
   -- what is below it is
-  pub refused_below : (sc : Scenario) → Means (cut input) sc → (f : BelowFault) → ReadsBelow o.logs (cut input) (below input) sc (Err f)
+  pub refused_below : (sc : Scenario) → Means (cut input) sc → (f : BelowFault) → ReadsBelow o.logs o.gap (cut input) (below input) sc (Err f)
       → Answers o input old old before before (Err (of_below f))
   refused_below sc means (misread.Log r) says = record {
     answered = tt;
@@ -78,18 +82,18 @@ module _ (o : OrderOptions) (input : List ℕ) (old : Option (List ℕ)) (before
   refused_below sc means misread.Memory says =
       record { answered = tt; part = inl refl; fault = tt; quiet = λ q. absurd q; writes = omega arith; reads = refl; whole = λ x y read. read.0 }
 
-  module _ (sc : Scenario) (lines : List NumberedLine) (means : Means (cut input) sc) (says : SaysIn o.logs (cut input) (below input) sc (Ok lines)) where
+  module _ (sc : Scenario) (lines : List NumberedLine) (means : Means (cut input) sc) (says : SaysIn o.logs o.gap (cut input) (below input) sc (Ok lines)) where
     -- an answer for its scenario and logs is one for it
-    answer_to : (a : OrderAnswer) (text : List ℕ) → IsAnswerOf o.wording sc (lines_in lines) a text → IsAnswerTo o input a text
+    answer_to : (a : OrderAnswer) (text : List ℕ) → IsAnswerOf o sc lines a text → IsAnswerTo o input a text
     answer_to a text is = record { scenario = sc; means = means; lines = lines; says = says; is = is }
 
     -- and a part of a text of one is that of one
-    part_to : (new : Option (List ℕ)) → WrotePart (IsAnswerOf o.wording sc (lines_in lines)) old new → WrotePart (IsAnswerTo o input) old new
+    part_to : (new : Option (List ℕ)) → WrotePart (IsAnswerOf o sc lines) old new → WrotePart (IsAnswerTo o input) old new
     part_to new (inl same) = inl same
     part_to new (inr p) = inr (p.0, p.1, answer_to p.0 p.1 p.2, p.3)
 
     -- a text of the answer went out
-    pub wrote_to : (new : Option (List ℕ)) (after : ℕ) (r : OrderReport) → WroteOrder (IsAnswerOf o.wording sc (lines_in lines)) old new before after (Ok r)
+    pub wrote_to : (new : Option (List ℕ)) (after : ℕ) (r : OrderReport) → WroteOrder (IsAnswerOf o sc lines) old new before after (Ok r)
         → Answers o input old new before after (Ok r)
     wrote_to new after r wrote =
         let text = wrote.0.0 in
@@ -105,7 +109,7 @@ module _ (o : OrderOptions) (input : List ℕ) (old : Option (List ℕ)) (before
         }
 
     -- or a part of one did
-    pub failed_to : (new : Option (List ℕ)) (after : ℕ) (f : TextFault) → WroteOrder (IsAnswerOf o.wording sc (lines_in lines)) old new before after (Err f)
+    pub failed_to : (new : Option (List ℕ)) (after : ℕ) (f : TextFault) → WroteOrder (IsAnswerOf o sc lines) old new before after (Err f)
         → Answers o input old new before after (Err (Bench (of_writing f)))
     failed_to new after Write wrote = record {
       answered = tt;

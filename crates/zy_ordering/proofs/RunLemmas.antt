@@ -1,7 +1,8 @@
 -- The run of the scenario that goes out.
-use Rattle.std.proofs.Common.{◌≡◌, ◌≤◌, ◌∙◌, ◌+◌, ◌++◌, ◌∷◌, ℕ, List, [], Bool, true, false, None, refl, sym, ap, subst, arith, length, length-append}
+use Rattle.std.proofs.Common.{◌≡◌, ◌≤◌, ◌∙◌, ◌+◌, ◌++◌, ◌∷◌, ℕ, zero, suc, List, [], Bool, true, false, None, refl, sym, ap, subst, arith, length, length-append}
 use Rattle.std.proofs.lemmas.List.{length-map}
-use Rattle.std.specs.Prelude.{if◌then◌else◌}
+use Rattle.std.specs.Prelude.{if◌then◌else◌, sum}
+use Rattle.std.proofs.lemmas.List.Sums.{sum_by-cons}
 use Rattle.zy_isa.specs.declared.node.Actor.{Actor}
 use Rattle.zy_isa.specs.declared.node.Actor.TheVariants.{C, A, B}
 use Rattle.zy_isa.specs.declared.choice.Choice.{Choice}
@@ -14,7 +15,9 @@ use Rattle.zy_laws.specs.Orders.{reordered}
 use Rattle.zy_laws.proofs.walk.Reordered.{entries-reordered, opening-reordered}
 use Rattle.zy_logs.specs.declared.log_line.LogLine.{LogLine}
 use Rattle.zy_order.specs.Answers.{IsInput, MatchesAll, MatchesPrefixes}
-use Rattle.zy_order.specs.Orders.{Fits, IsMerge, IsPrefix, choices_of, lines_of}
+use Rattle.zy_order.specs.declared.gaps.Gaps.{Gaps}
+use Rattle.zy_order.specs.Gaps.{gaps_of, gap_count, AreMissing, Completes}
+use Rattle.zy_order.specs.Orders.{Fits, Merges, IsPrefixOrder, all_of, choices_of, lines_of}
 use Rattle.zy_order.proofs.OrderLemmas.{is_same, lines_cons}
 use Rattle.zy_order.proofs.LineLemmas.{lines_lengths}
 use Rattle.zy_engine.specs.Searching.{history_of}
@@ -43,31 +46,27 @@ steps_behind sc order cs is =
     ∙ (entries-reordered sc choices (opening sc) choices
     ∙ (entries-append sc (opening sc) sc.choices cs ∙ ap (λ ds. steps_of sc ++ entries sc after ds) is))
 
--- the run makes a step for each line of the order
-pub runs : (sc : Scenario) (lines : List LogLine) (cs : List Choice) → MatchesAll (history_of None sc) lines cs → RunsOrder sc lines cs
-runs sc lines cs all =
-    let order = all.0 in
+-- the run makes a step for each line of an order of prefixes
+begun_by : (sc : Scenario) (lines : List LogLine) (gaps : Gaps) (taken : Actor → ℕ) (order : List LogLine) (cs : List Choice)
+    → IsPrefixOrder sc (history_of None sc).state lines gaps taken order → cs ≡ choices_of order → RunsPrefix sc lines gaps taken cs
+begun_by sc lines gaps taken order cs is same =
     let after = play sc (opening sc) sc.choices in
     record {
       order = order;
-      merge = all.1.merge;
+      merges = is.merges;
       steps = entries sc after (choices_of order);
-      behind = steps_behind sc order cs all.2;
-      agree = agree_each sc after order all.1.fits;
+      behind = steps_behind sc order cs same;
+      agree = agree_each sc after order is.fits;
     }
 
--- and for each line of an order of prefixes
-pub begun_runs : (sc : Scenario) (lines : List LogLine) (cs : List Choice) → MatchesPrefixes (history_of None sc) lines cs → RunsPrefix sc lines cs
-begun_runs sc lines cs begun =
-    let order = begun.0 in
-    let after = play sc (opening sc) sc.choices in
-    record {
-      order = order;
-      prefixes = begun.1.prefixes;
-      steps = entries sc after (choices_of order);
-      behind = steps_behind sc order cs begun.2;
-      agree = agree_each sc after order begun.1.fits;
-    }
+-- so it does of an order
+pub runs : (sc : Scenario) (lines : List LogLine) (gaps : Gaps) (cs : List Choice) → MatchesAll (history_of None sc) lines gaps cs
+    → RunsOrder sc lines gaps cs
+runs sc lines gaps cs all = begun_by sc lines gaps (all_of lines) all.0 cs all.1 all.2
+
+pub begun_runs : (sc : Scenario) (lines : List LogLine) (gaps : Gaps) (cs : List Choice) → MatchesPrefixes (history_of None sc) lines gaps cs
+    → (taken : Actor → ℕ) × RunsPrefix sc lines gaps taken cs
+begun_runs sc lines gaps cs begun = (begun.0, begun_by sc lines gaps begun.0 begun.1 cs begun.2 begun.3)
 
 -- ---- it is a scenario
 
@@ -113,21 +112,58 @@ each_named count (line ∷ lines) named =
       each_named count lines (λ y. tail_named count line (lines_of y lines) (is_same y x) (parted y)),
     )
 
--- a merge has each actor's lines
-merge_of : (x : Actor) (order lines : List LogLine) → IsMerge order lines → lines_of x order ≡ lines_of x lines
-merge_of C order lines merge = merge.of_c
-merge_of A order lines merge = merge.of_a
-merge_of B order lines merge = merge.of_b
+-- missing steps name transactions that are there
+missing_named : (count : ℕ) (x : Actor) (lines : List LogLine) → AreMissing count x lines → AreNamed count (choices_of lines)
+missing_named count x [] missing = tt
+missing_named count x (line ∷ lines) missing = (missing.0.named, missing_named count x lines missing.1)
 
--- so its choices name transactions that are there
-merge_named : (count : ℕ) (order lines : List LogLine) → IsMerge order lines → AreNamed count (choices_of lines) → AreNamed count (choices_of order)
-merge_named count order lines merge named =
-    each_named count order (λ x. subst (λ ls. AreNamed count (choices_of ls)) (sym (merge_of x order lines merge)) (own_named count x lines named))
+-- lines that are named, another one and others
+named_around : (count : ℕ) (front : List LogLine) (line : LogLine) (back : List LogLine) → AreNamed count (choices_of front)
+    → names_below count line.choice ≡ true → AreNamed count (choices_of back) → AreNamed count (choices_of (front ++ line ∷ back))
+named_around count [] line back front one rest = (one, rest)
+named_around count (l ∷ ls) line back front one rest = (front.0, named_around count ls line back front.1 one rest)
 
--- and it has as many lines
-merge_length : (order lines : List LogLine) → IsMerge order lines → length order ≡ length lines
-merge_length order lines merge =
-    omega (arith, lines_lengths order, lines_lengths lines, ap length merge.of_c, ap length merge.of_a, ap length merge.of_b)
+-- so do lines that complete the first lines of a log whose lines do
+completes_named : (count : ℕ) (x : Actor) (k : ℕ) (log : List LogLine) (gaps : List ℕ) (lines : List LogLine) → AreNamed count (choices_of log)
+    → Completes count x k log gaps lines → AreNamed count (choices_of lines)
+completes_named count x k log [] lines named c = absurd c
+completes_named count x zero log (n ∷ gaps) lines named c = missing_named count x lines c.missing
+completes_named count x (suc k) [] (n ∷ gaps) lines named c = absurd c
+completes_named count x (suc k) (l ∷ log) (n ∷ gaps) lines named c =
+    subst (λ ls. AreNamed count (choices_of ls)) (sym c.is)
+    (named_around count c.filled l c.rest (missing_named count x c.filled c.gap.missing) named.0
+    (completes_named count x k log gaps c.rest named.1 c.goes_on))
+
+-- and they are no more than the log and its gaps have room for
+completes_few : (count : ℕ) (x : Actor) (k : ℕ) (log : List LogLine) (gaps : List ℕ) (lines : List LogLine) → Completes count x k log gaps lines
+    → length lines ≤ length log + sum gaps
+completes_few count x k log [] lines c = absurd c
+completes_few count x zero log (n ∷ gaps) lines c = omega (arith, c.few, sum_by-cons (λ m. m) n gaps)
+completes_few count x (suc k) [] (n ∷ gaps) lines c = absurd c
+completes_few count x (suc k) (l ∷ log) (n ∷ gaps) lines c = omega (
+  arith,
+  completes_few count x k log gaps c.rest c.goes_on,
+  c.gap.few,
+  ap (λ (ls : List LogLine). length ls) c.is,
+  length-append c.filled (l ∷ c.rest),
+  sum_by-cons (λ m. m) n gaps,
+)
+
+module _ (sc : Scenario) (lines : List LogLine) (gaps : Gaps) (taken : Actor → ℕ) (order : List LogLine) (merges : Merges sc lines gaps taken order) where
+  -- the choices of a merge name transactions that are there
+  merge_named : AreNamed (length sc.programs) (choices_of lines) → AreNamed (length sc.programs) (choices_of order)
+  merge_named named =
+      let count = length sc.programs in
+      each_named count order (λ x. completes_named count x (taken x) (lines_of x lines) (gaps_of x gaps) (lines_of x order) (own_named count x lines named)
+      (merges x))
+
+  -- and there are no more than the logs have room for
+  merge_few : length order ≤ length lines + gap_count gaps
+  merge_few =
+      let count = length sc.programs in
+      let few : (x : Actor) → length (lines_of x order) ≤ length (lines_of x lines) + sum (gaps_of x gaps) = λ x.
+      completes_few count x (taken x) (lines_of x lines) (gaps_of x gaps) (lines_of x order) (merges x) in
+      omega (arith, lines_lengths order, lines_lengths lines, few C, few A, few B)
 
 -- a choice for each line
 length_choices : (lines : List LogLine) → length (choices_of lines) ≡ length lines
@@ -137,32 +173,6 @@ length_choices lines = length-map lines (λ (line : LogLine). line.choice)
 named_both : (count : ℕ) (cs ds : List Choice) → AreNamed count cs → AreNamed count ds → AreNamed count (cs ++ ds)
 named_both count [] ds front back = back
 named_both count (c ∷ cs) ds front back = (front.0, named_both count cs ds front.1 back)
-
--- the first ones of lines whose choices are named
-front_named : (count : ℕ) (xs rest : List LogLine) → AreNamed count (choices_of (xs ++ rest)) → AreNamed count (choices_of xs)
-front_named count [] rest named = tt
-front_named count (x ∷ xs) rest named = (named.0, front_named count xs rest named.1)
-
--- so the choices of an order of prefixes name transactions that are there
-prefix_named : (count : ℕ) (order lines : List LogLine) → ((x : Actor) → IsPrefix (lines_of x order) (lines_of x lines))
-    → AreNamed count (choices_of lines) → AreNamed count (choices_of order)
-prefix_named count order lines prefixes named =
-    each_named count order (λ x. let p = prefixes x in
-    front_named count (lines_of x order) p.0 (subst (λ ls. AreNamed count (choices_of ls)) p.1 (own_named count x lines named)))
-
--- and it has no more lines
-prefix_length : (xs ys : List LogLine) → IsPrefix xs ys → length xs ≤ length ys
-prefix_length xs ys p = omega (arith, ap length p.1, length-append xs p.0)
-
-prefixes_length : (order lines : List LogLine) → ((x : Actor) → IsPrefix (lines_of x order) (lines_of x lines)) → length order ≤ length lines
-prefixes_length order lines prefixes = omega (
-  arith,
-  lines_lengths order,
-  lines_lengths lines,
-  prefix_length (lines_of C order) (lines_of C lines) (prefixes C),
-  prefix_length (lines_of A order) (lines_of A lines) (prefixes A),
-  prefix_length (lines_of B order) (lines_of B lines) (prefixes B),
-)
 
 -- a scenario with choices behind its own is one, where there is room for them and they name transactions that are there
 with_choices : (sc : Scenario) (cs : List Choice) → IsScenario sc → length sc.choices + length cs ≤ max_choices → AreNamed (length sc.programs) cs
@@ -183,36 +193,28 @@ with_choices sc cs is room named = record {
   choices_named = named_both (length sc.programs) sc.choices cs is.choices_named named;
 }
 
--- the scenario with the choices of an order behind its own is one
-pub is_extended : (sc : Scenario) (lines : List LogLine) (cs : List Choice) → IsScenario sc → IsInput (history_of None sc) lines
-    → MatchesAll (history_of None sc) lines cs → IsScenario (extended sc cs)
-is_extended sc lines cs is input all =
+-- the scenario with the choices of an order of prefixes behind its own is one
+begun_is : (sc : Scenario) (lines : List LogLine) (gaps : Gaps) (taken : Actor → ℕ) (order : List LogLine) (cs : List Choice) → IsScenario sc
+    → IsInput (history_of None sc) lines gaps → IsPrefixOrder sc (history_of None sc).state lines gaps taken order → cs ≡ choices_of order
+    → IsScenario (extended sc cs)
+begun_is sc lines gaps taken order cs is input by same =
     let count = length sc.programs in
-    let order = all.0 in
     with_choices sc cs is
     (omega (
       arith,
       input.room,
       length-entries sc (opening sc) sc.choices,
-      ap length all.2,
+      ap length same,
       length_choices order,
-      merge_length order lines all.1.merge,
+      merge_few sc lines gaps taken order by.merges,
     ))
-    (subst (AreNamed count) (sym all.2) (merge_named count order lines all.1.merge input.named))
+    (subst (AreNamed count) (sym same) (merge_named sc lines gaps taken order by.merges input.named))
 
--- and so is that with the choices of an order of prefixes
-pub is_begun : (sc : Scenario) (lines : List LogLine) (cs : List Choice) → IsScenario sc → IsInput (history_of None sc) lines
-    → MatchesPrefixes (history_of None sc) lines cs → IsScenario (extended sc cs)
-is_begun sc lines cs is input begun =
-    let count = length sc.programs in
-    let order = begun.0 in
-    with_choices sc cs is
-    (omega (
-      arith,
-      input.room,
-      length-entries sc (opening sc) sc.choices,
-      ap length begun.2,
-      length_choices order,
-      prefixes_length order lines begun.1.prefixes,
-    ))
-    (subst (AreNamed count) (sym begun.2) (prefix_named count order lines begun.1.prefixes input.named))
+-- so is that with the choices of an order
+pub is_extended : (sc : Scenario) (lines : List LogLine) (gaps : Gaps) (cs : List Choice) → IsScenario sc → IsInput (history_of None sc) lines gaps
+    → MatchesAll (history_of None sc) lines gaps cs → IsScenario (extended sc cs)
+is_extended sc lines gaps cs is input all = begun_is sc lines gaps (all_of lines) all.0 cs is input all.1 all.2
+
+pub is_begun : (sc : Scenario) (lines : List LogLine) (gaps : Gaps) (cs : List Choice) → IsScenario sc → IsInput (history_of None sc) lines gaps
+    → MatchesPrefixes (history_of None sc) lines gaps cs → IsScenario (extended sc cs)
+is_begun sc lines gaps cs is input begun = begun_is sc lines gaps begun.0 begun.1 cs is input begun.2 begun.3

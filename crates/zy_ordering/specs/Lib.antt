@@ -1,3 +1,4 @@
+pub mod Missing
 pub mod Names
 pub mod Faults
 pub mod Ordering

@@ -1,5 +1,5 @@
 -- The run of the scenario that goes out.
-use Rattle.std.specs.Prelude.{◌≡◌, ◌++◌, List, [], ◌∷◌}
+use Rattle.std.specs.Prelude.{◌≡◌, ◌++◌, ℕ, List, [], ◌∷◌}
 use Rattle.zy_isa.specs.declared.choice.Choice.{Choice}
 use Rattle.zy_isa.specs.Scenario.{Scenario}
 use Rattle.zy_table.specs.declared.entry.Entry.{Entry}
@@ -8,7 +8,8 @@ use Rattle.zy_laws.specs.Orders.{reordered}
 use Rattle.zy_logs.specs.declared.log_line.LogLine.{LogLine}
 use Rattle.zy_logs.specs.Agrees.{Agrees}
 use Rattle.zy_isa.specs.declared.node.Actor.{Actor}
-use Rattle.zy_order.specs.Orders.{IsMerge, IsPrefix, lines_of}
+use Rattle.zy_order.specs.declared.gaps.Gaps.{Gaps}
+use Rattle.zy_order.specs.Orders.{Merges, all_of}
 
 -- the scenario with choices behind its own
 abbrev pub extended : Scenario → List Choice → Scenario
@@ -26,18 +27,14 @@ AgreeEach (line ∷ lines) [] = ⊥
 AgreeEach (line ∷ lines) (e ∷ es) = (e.choice ≡ line.choice) × Agrees line e × AgreeEach lines es
 
 -- the run of the scenario with these choices behind its own has the same steps, and behind them one for each line of a
--- merge of the logs
-pub record RunsOrder (sc : Scenario) (lines : List LogLine) (cs : List Choice) : Type 0 where
+-- merge of completions of the logs, which takes these numbers of lines
+pub record RunsPrefix (sc : Scenario) (lines : List LogLine) (gaps : Gaps) (taken : Actor → ℕ) (cs : List Choice) : Type 0 where
   pub order : List LogLine
-  pub merge : IsMerge order lines
+  pub merges : Merges sc lines gaps taken order
   pub steps : List Entry
   pub behind : steps_of (extended sc cs) ≡ steps_of sc ++ steps
   pub agree : AgreeEach order steps
 
--- the same of an order of prefixes of the logs
-pub record RunsPrefix (sc : Scenario) (lines : List LogLine) (cs : List Choice) : Type 0 where
-  pub order : List LogLine
-  pub prefixes : (x : Actor) → IsPrefix (lines_of x order) (lines_of x lines)
-  pub steps : List Entry
-  pub behind : steps_of (extended sc cs) ≡ steps_of sc ++ steps
-  pub agree : AgreeEach order steps
+-- all lines are taken
+abbrev pub RunsOrder : Scenario → List LogLine → Gaps → List Choice → Type 0
+RunsOrder sc lines gaps cs = RunsPrefix sc lines gaps (all_of lines) cs

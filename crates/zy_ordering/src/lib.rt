@@ -6,9 +6,11 @@ pub mod faults;
 pub mod laws;
 pub mod log_format;
 pub mod logs_below;
+mod missing;
 pub mod names;
+pub mod options;
 pub mod ordering;
 
 pub use crate::faults::{BelowFault, OrderFault};
 pub use crate::log_format::LogFormat;
-pub use crate::ordering::OrderOptions;
+pub use crate::options::OrderOptions;

@@ -1,8 +1,9 @@
 //! The logs that are below a scenario.
-ghost use Rattle.std.specs.Prelude.{◌≡◌, ◌==◌, ◌<◌, ◌≤◌, ◌^◌, count_by, length, IfOk};
+ghost use Rattle.std.specs.Prelude.{◌≡◌, ◌==◌, ◌<◌, ◌≤◌, ◌+◌, ◌^◌, count_by, length, IfOk};
 ghost use Rattle.zy_isa.specs.Limits.{max_txns};
 ghost use Rattle.zy_io.specs.Streams.{max_input};
-ghost use Rattle.zy_ordering.specs.Ordering.{line_below, lines_in, ReadsBelow, ReadsLines};
+ghost use Rattle.zy_logs.specs.Logs as logs;
+ghost use Rattle.zy_ordering.specs.Ordering.{line_below, ReadsBelow, ReadsLines};
 
 use crate::faults::BelowFault;
 use crate::log_format::LogFormat;
@@ -11,7 +12,7 @@ use std::alloc::{AllocError, Global};
 use zy_isa::{MAX_CHOICES, Scenario};
 use zy_json::logs::read_objects;
 use zy_logs::logs::read_logs;
-use zy_logs::{LogFault, LogLine, NumberedLine, Txns};
+use zy_logs::{LogFault, LogLine, Logged, NumberedLine, Txns};
 
 /// How many lines end in these bytes.
 fn line_ends(bytes: &[u8]) -> usize
@@ -28,16 +29,17 @@ fn first_below(text: &[u8]) -> usize
     1 + line_ends(text)
 }
 
-/// Reads the lines of logs below a scenario's text, no more than it has room for choices. Each has its number in the whole
-/// input.
+/// Reads the lines of logs below a scenario's text, each with its number in the whole input. A gap counts for `gap` choices, and
+/// all lines for no more than the scenario has room for.
 fn read_lines(
     alloc: Global,
     scenario: &Scenario,
+    gap: u16,
     text: &[u8],
     lines: &[u8],
 ) -> Result<Vec<NumberedLine>, LogFault>
     requires { (length text.now ≤ max_input) × (length lines.now < 2 ^ 63) }
-    ensures { ReadsLines text.now lines.now scenario.now result }
+    ensures { ReadsLines gap text.now lines.now scenario.now result }
 {
     let names = names_of(alloc, text)?;
     let txns = Txns {
@@ -45,45 +47,52 @@ fn read_lines(
         names: &names,
     };
     let most = MAX_CHOICES.saturating_sub(scenario.choices().len());
-    read_logs(alloc, txns, most, first_below(text), lines)
+    read_logs(
+        alloc,
+        txns,
+        usize::from(gap),
+        most,
+        first_below(text),
+        lines,
+    )
 }
 
-/// Reads what is below a scenario's text as lines of logs of its transactions, no more than it has room for choices. Each has
-/// its number in the whole input. Of objects the first one that tells no line of a log is reported, before any fault of what
-/// the others tell.
+/// Reads what is below a scenario's text as lines of logs of its transactions, each with its number in the whole input. A gap
+/// counts for `gap` choices, and all lines for no more than the scenario has room for. Of objects the first one that tells no line
+/// of a log is reported, before any fault of what the others tell.
 pub fn read_below(
     alloc: Global,
     format: LogFormat,
+    gap: u16,
     scenario: &Scenario,
     text: &[u8],
     below: &[u8],
 ) -> Result<Vec<NumberedLine>, BelowFault>
     requires { (length text.now ≤ max_input) × (length below.now ≤ max_input) }
-    ensures { ReadsBelow format text.now below.now scenario.now result }
+    ensures { ReadsBelow format gap text.now below.now scenario.now result }
 {
     match format {
         LogFormat::Text => {
-            let lines = read_lines(alloc, scenario, text, below)?;
+            let lines = read_lines(alloc, scenario, gap, text, below)?;
             Ok(lines)
         }
         LogFormat::Json => {
             let logs = read_objects(alloc, first_below(text), below)?;
-            let lines = read_lines(alloc, scenario, text, &logs)?;
+            let lines = read_lines(alloc, scenario, gap, text, &logs)?;
             Ok(lines)
         }
     }
 }
 
-/// The lines without their numbers.
-pub(crate) fn without_numbers(
-    alloc: Global,
-    lines: &[NumberedLine],
-) -> Result<Vec<LogLine>, AllocError>
-    ensures { IfOk result (λ v. v.items ≡ lines_in lines.now) }
+/// The lines of steps, without their numbers.
+pub(crate) fn steps(alloc: Global, lines: &[NumberedLine]) -> Result<Vec<LogLine>, AllocError>
+    ensures { IfOk result (λ v. v.items ≡ logs.steps lines.now) }
 {
-    let mut bare = Vec::new(alloc);
+    let mut steps = Vec::new(alloc);
     for line in lines {
-        bare.push(line.line)?;
+        if let Logged::Step(step) = line.logged {
+            steps.push(step)?;
+        }
     }
-    Ok(bare)
+    Ok(steps)
 }

@@ -3,12 +3,12 @@ ghost use Rattle.std.specs.Prelude.{◌≡◌, ◌<◌, ◌≤◌, None, length}
 ghost use Rattle.zy_io.specs.Streams.{max_input};
 ghost use Rattle.zy_engine.specs.Engines.{streams};
 ghost use Rattle.zy_engine.specs.Searching.{history_of, WroteSome};
-ghost use Rattle.zy_order.specs.Answers.{IsInput};
-ghost use Rattle.zy_ordering.specs.Ordering.{lines_in, Answers, ConvertsOrder, IsAnswerOf, IsTextOf, WroteOrder};
+ghost use Rattle.zy_ordering.specs.Ordering.{Answers, CanFollow, ConvertsOrder, IsAnswerOf, IsTextOf, WroteOrder};
 
 use crate::faults::OrderFault;
-use crate::log_format::LogFormat;
-use crate::logs_below::{read_below, without_numbers};
+use crate::logs_below::{read_below, steps};
+use crate::missing::gaps;
+use crate::options::OrderOptions;
 use std::alloc::Global;
 use zy_engine::format::accept;
 use zy_engine::searching::write_found;
@@ -21,17 +21,6 @@ use zy_machine::Machine;
 use zy_order::order::order;
 use zy_order::{OrderAnswer, OrderReport};
 use zy_text::cut::cut_len;
-
-/// What an order is looked for by.
-#[derive(Clone, Copy, Debug, PartialEq, Eq)]
-pub struct OrderOptions {
-    /// How the scenario is written that goes out.
-    pub wording: Wording,
-    /// How the lines of logs are written.
-    pub logs: LogFormat,
-    /// The most states that may be reached.
-    pub most: u32,
-}
 
 /// Writes what goes out of an answer: of a machine that has made all choices of its scenario, whose text is at hand.
 fn write_answer<K: Sink>(
@@ -54,7 +43,7 @@ fn write_answer<K: Sink>(
     }
 }
 
-/// Makes the choices of a scenario, looks for an order of lines of logs behind them, and writes what goes out of the answer.
+/// Makes the choices of a scenario, looks for an order of the lines of logs behind them, and writes what goes out of the answer.
 /// The scenario's own text is at hand.
 fn write_order<K: Sink>(
     alloc: Global,
@@ -64,14 +53,15 @@ fn write_order<K: Sink>(
     lines: &[NumberedLine],
     sink: &mut K,
 ) -> Result<OrderReport, TextFault>
-    requires input { IsInput (history_of None scenario) (lines_in lines.now) }
+    requires input { CanFollow (history_of None scenario) options.gap lines.now }
     requires calls { K.failures sink.old < u64.MAX }
-    ensures { WroteOrder (IsAnswerOf options.wording scenario (lines_in lines.now))
+    ensures { WroteOrder (IsAnswerOf options scenario lines.now)
         (K.written sink.old) (K.written sink.new) (K.failures sink.old) (K.failures sink.new) result }
 {
-    let lines = without_numbers(alloc, lines)?;
+    let steps = steps(alloc, lines)?;
+    let gaps = gaps(alloc, options.gap, lines)?;
     let machine = Machine::run_all(alloc, scenario)?;
-    let report = order(alloc, &machine, &lines, options.most)?;
+    let report = order(alloc, &machine, &steps, gaps, options.most)?;
     write_answer(alloc, options.wording, text, &machine, &report.answer, sink)?;
     Ok(report)
 }
@@ -90,7 +80,7 @@ fn answer<K: Sink>(
 {
     let (text, below) = input.split_at(cut_len(input));
     let scenario = accept(alloc, Format::Text, text)?;
-    let lines = read_below(alloc, options.logs, &scenario, text, below)?;
+    let lines = read_below(alloc, options.logs, options.gap, &scenario, text, below)?;
     let report = write_order(alloc, options, text, scenario, &lines, sink)?;
     Ok(report)
 }

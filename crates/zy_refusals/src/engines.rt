@@ -35,6 +35,7 @@ enum Engine {
 const OPTIONS: OrderOptions = OrderOptions {
     wording: Wording::Own,
     logs: LogFormat::Text,
+    gap: 2,
     most: 100,
 };
 

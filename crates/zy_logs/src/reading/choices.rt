@@ -8,7 +8,7 @@ use crate::expected::ExpectedInLog;
 use crate::reading::cursor::{LogCursor, Parsed};
 use crate::reading::parts::txn;
 use crate::txns::Txns;
-use zy_isa::{Choice, Node};
+use zy_isa::{Actor, Choice, Node};
 
 /// A choice of the client, after `C`.
 fn client_choice<'a>(txns: Txns<'a>, at: LogCursor<'a>) -> Parsed<'a, Choice>
@@ -58,6 +58,21 @@ pub fn choice<'a>(txns: Txns<'a>, at: LogCursor<'a>) -> Parsed<'a, Choice>
         node_choice(txns, Node::A, at.next())
     } else if at.is_at(b"B") {
         node_choice(txns, Node::B, at.next())
+    } else {
+        Err(at.refuses(ExpectedInLog::Actor))
+    }
+}
+
+/// The actor whom the word at hand names.
+pub fn whose<'a>(at: LogCursor<'a>) -> Parsed<'a, Actor>
+    ensures { read result ≡ spec.whose (left at.entry) }
+{
+    if at.is_at(b"C") {
+        Ok((Actor::C, at.next()))
+    } else if at.is_at(b"A") {
+        Ok((Actor::A, at.next()))
+    } else if at.is_at(b"B") {
+        Ok((Actor::B, at.next()))
     } else {
         Err(at.refuses(ExpectedInLog::Actor))
     }

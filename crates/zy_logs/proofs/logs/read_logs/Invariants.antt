@@ -6,8 +6,8 @@ use Rattle.zy_logs.proofs.logs.read_logs.Given as goal
 
 abbrev pub invariant-loop-rest : goal.invariant-loop-rest
 invariant-loop-rest l = record {
-  same : logs_of l.txns l.most l.first l.text
-      ≡ joined l.lines.items (lines_from l.txns l.most (length l.lines.items) l.number (lines_of l.rest));
+  same : logs_of l.txns l.gap l.most l.first l.text
+      ≡ joined l.lines.items (lines_from l.txns l.gap l.left l.number (lines_of l.rest));
   within : l.number + length l.rest ≤ l.first + length l.text;
 }
 

@@ -4,10 +4,8 @@ use Rattle.std.proofs.lemmas.Result.{on_ok_weaker}
 use Rattle.zy_isa.specs.Limits.{max_choices}
 use Rattle.zy_search.specs.Visits.{path_at, length_at}
 use Rattle.zy_search.proofs.ShelfLemmas.{in_any_case}
-use Rattle.zy_order.specs.Ways.{at_start}
 use Rattle.zy_order.specs.Reaches.{cursors_at}
-use Rattle.zy_order.proofs.WayLemmas.{fewer_matched, within_after, within_start}
-use Rattle.zy_order.proofs.ReachLemmas.{matched_at}
+use Rattle.zy_order.proofs.WayLemmas.{way_fewer}
 use Rattle.zy_order.proofs.expand.arrive.Goals as goal
 
 pub returns-then-len-lt-MAX_CHOICES-clause-here : goal.returns-then-len-lt-MAX_CHOICES-clause-here
@@ -26,11 +24,10 @@ returns-clause-room c =
     let ps = c.args.reached.now.visited in
     let at = c.args.at in
     let way = c.requires.under_way.reached.ways at c.requires.at in
-    let within = within_after p.start.scenario p.logs at_start p.start.state (path_at ps at) way (within_start p.logs) in
-    let fewer = fewer_matched p.logs (cursors_at ps at) within c.requires.part in
-    let same = matched_at ps at in
+    let fewer = way_fewer p.start.scenario p.logs p.start.state (path_at ps at) (cursors_at c.args.reached.now at) c.requires.under_way.plan.gaps way
+    c.requires.part in
     on_ok_weaker {P = length c.go_to.new.machine.entries ≡ length p.start.entries + length_at ps at}
-    {Q = length c.go_to.new.machine.entries < max_choices} c.go_to.result (λ e. omega (arith, e, fewer, same, c.requires.under_way.plan.room))
+    {Q = length c.go_to.new.machine.entries < max_choices} c.go_to.result (λ e. omega (arith, e, fewer, c.requires.under_way.plan.room))
     c.go_to.ensures.entries
 
 pub returns-clause-shelf : goal.returns-clause-shelf

@@ -31,8 +31,7 @@ pub returns-then-are_matched-clause-settles : goal.returns-then-are_matched-clau
 returns-then-are_matched-clause-settles c =
     let u = c.loop.invariant.under_way in
     let lt = (c.in-Some.ensures.taken c.args.plan.now u.reached c.loop.invariant.followed).0 in
-    let same = c.cursors_at.ensures ∙ (c.in-Some.ensures.reached c.args.plan.now u.reached).kept c.in-Some.at lt in
-    (lt, subst (AreMatched c.args.plan.now.logs) same (c.are_matched.ensures.0 c.if-are_matched.true))
+    (lt, subst (AreMatched c.args.plan.now.logs) c.cursors_at.ensures (c.are_matched.ensures.0 c.if-are_matched.true))
 
 pub expand-requires-clause-at : goal.expand-requires-clause-at
 expand-requires-clause-at c = (c.in-Some.ensures.taken c.args.plan.now c.loop.invariant.under_way.reached c.loop.invariant.followed).0
@@ -44,10 +43,7 @@ expand-requires-clause-under_way c =
 
 pub expand-requires-clause-part : goal.expand-requires-clause-part
 expand-requires-clause-part c = λ end.
-    let u = c.loop.invariant.under_way in
-    let lt = (c.in-Some.ensures.taken c.args.plan.now u.reached c.loop.invariant.followed).0 in
-    let same = c.cursors_at.ensures ∙ (c.in-Some.ensures.reached c.args.plan.now u.reached).kept c.in-Some.at lt in
-    false≢true (sym c.if-are_matched.false ∙ c.are_matched.ensures.1 (subst (AreMatched c.args.plan.now.logs) (sym same) end))
+    false≢true (sym c.if-are_matched.false ∙ c.are_matched.ensures.1 (subst (AreMatched c.args.plan.now.logs) (sym c.cursors_at.ensures) end))
 
 pub expand-requires-clause-shelf : goal.expand-requires-clause-shelf
 expand-requires-clause-shelf c =
@@ -58,13 +54,11 @@ loop-preserved c =
     let p = c.args.plan.now in
     let u = c.loop.invariant.under_way in
     let taken = c.in-Some.ensures.taken p u.reached c.loop.invariant.followed in
-    let same = c.cursors_at.ensures ∙ (c.in-Some.ensures.reached p u.reached).kept c.in-Some.at taken.0 in
     let adds = c.in_ok-expand.ensures.adds in
     record {
       under_way = record { plan = u.plan; reached = adds.reached };
       followed = followed_next p c.next_of.new.reached c.expand.new.reached c.in-Some.at c.expand.new.shelf taken adds
-          (λ end. false≢true (sym c.if-are_matched.false ∙ c.are_matched.ensures.1 (subst (AreMatched p.logs) (sym same) end)))
-          (c.in_ok-expand.ensures.met c.if-not-branch.false);
+          (c.in_ok-expand.ensures.followed c.if-not-branch.false);
       shelf = adds.shelf;
       here = c.in_ok-expand.ensures.here;
       twin = c.in_ok-expand.ensures.twin;

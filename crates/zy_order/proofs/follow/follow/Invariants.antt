@@ -7,7 +7,7 @@ abbrev pub invariant-loop : goal.invariant-loop
 invariant-loop l =
     record {
       under_way : IsUnderWay l.plan l.reached;
-      followed : AreFollowedBut l.plan.start l.plan.logs l.reached.visited l.reached.todo.items;
+      followed : AreFollowedBut l.plan.start l.plan.logs l.reached l.reached.todo.items;
       shelf : IsShelf l.plan.start l.reached.visited l.shelf;
       here : l.here.scenario ≡ l.plan.start.scenario;
       twin : l.twin.scenario ≡ l.plan.start.scenario;

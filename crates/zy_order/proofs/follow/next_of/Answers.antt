@@ -9,4 +9,4 @@ returns-clause-reached c = λ p is. taken_reached p c.args.reached.now _ c.pop.r
 pub returns-clause-taken : goal.returns-clause-taken
 returns-clause-taken c = λ p is followed.
     let some = λ (lt : 0 < length c.args.reached.now.todo.items). c.pop.ensures.variant.1 (omega (arith, lt)) in
-    taken p c.args.reached.now (record (c.args.reached.now) { todo = c.pop.new.self }) c.pop.result is followed c.pop.ensures.items some refl
+    taken p c.args.reached.now (record (c.args.reached.now) { todo = c.pop.new.self }) c.pop.result is followed c.pop.ensures.items some refl refl

@@ -8,7 +8,7 @@ use Rattle.zy_ordering.proofs.logs_below.read_lines.Goals as goal
 
 pub returns : goal.returns
 returns c =
-    read_of c.args.text.now c.args.lines.now c.args.scenario.now (record { count = length c.programs.result.now; names = c.deref.result })
+    read_of c.args.gap c.args.text.now c.args.lines.now c.args.scenario.now (record { count = length c.programs.result.now; names = c.deref.result })
     (record { count = ap length c.programs.ensures.value; names = ap texts c.deref.ensures.value ∙ c.in_ok-names.ensures })
     c.saturating_sub-most.result c.first_below.result c.read_logs.result
     (c.saturating_sub-most.ensures ∙ ap (λ (cs : List Choice). max_choices - length cs) c.choices.ensures.value)

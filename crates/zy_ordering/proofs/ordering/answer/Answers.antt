@@ -4,15 +4,15 @@ use Rattle.std.proofs.lemmas.Result.{err_from_is_err_and}
 use Rattle.zy_text.specs.Text.{Means}
 use Rattle.zy_logs.specs.declared.logs.NumberedLine.{NumberedLine}
 use Rattle.zy_engine.specs.Inputs.{IsTextFault}
-use Rattle.zy_ordering.specs.Ordering.{lines_in, IsAnswerOf, WroteOrder}
-use Rattle.zy_ordering.proofs.BelowLemmas.{text_is, below_is, input_of, reads_cut}
+use Rattle.zy_ordering.specs.Ordering.{IsAnswerOf, WroteOrder}
+use Rattle.zy_ordering.proofs.BelowLemmas.{text_is, below_is, can_follow, reads_cut}
 use Rattle.zy_ordering.proofs.AnswerLemmas.{refused_text, refused_below, wrote_to, failed_to}
 use Rattle.zy_ordering.proofs.ordering.answer.Goals as goal
 
 pub write_order-requires-clause-input : goal.write_order-requires-clause-input
 write_order-requires-clause-input g c =
     let text = c.split_at.result.0.now in
-    rw c.deref.ensures.value (input_of c.args.options.logs text c.split_at.result.1.now c.in_ok-scenario.scenario c.in_ok-lines.lines.items
+    rw c.deref.ensures.value (can_follow c.args.options.logs c.args.options.gap text c.split_at.result.1.now c.in_ok-scenario.scenario c.in_ok-lines.lines.items
     c.in_ok-scenario.ensures.found.0.0 c.in_ok-lines.ensures)
 
 pub returns-in_err-scenario : goal.returns-in_err-scenario
@@ -36,7 +36,7 @@ returns-in_err-lines g c =
     let p = err_from_is_err_and c.from_residual-in_err-lines.result c.from_residual-in_err-lines.ensures.1 in
     rw (p.1, p.2) (
     refused_below c.args.options input (g.K.Sink.written c.args.sink.now) (g.K.Sink.failures c.args.sink.now) sc
-    (subst (λ t. Means t sc) text c.in_ok-scenario.ensures.found.0) fault (reads_cut c.args.options.logs input c.split_at.result.0.now c.split_at.result.1.now sc (Err fault) text under c.in_err-lines.ensures)
+    (subst (λ t. Means t sc) text c.in_ok-scenario.ensures.found.0) fault (reads_cut c.args.options.logs c.args.options.gap input c.split_at.result.0.now c.split_at.result.1.now sc (Err fault) text under c.in_err-lines.ensures)
     )
 
 pub returns-in_err-report : goal.returns-in_err-report
@@ -46,12 +46,12 @@ returns-in_err-report g c =
     let text = text_is input c.split_at.result.0.now c.cut_len.result c.split_at.ensures.front c.cut_len.ensures in
     let under = below_is input c.split_at.result.1.now c.cut_len.result c.split_at.ensures.back c.cut_len.ensures in
     let means = subst (λ t. Means t sc) text c.in_ok-scenario.ensures.found.0 in
-    let says = reads_cut c.args.options.logs input c.split_at.result.0.now c.split_at.result.1.now sc (Ok c.in_ok-lines.lines) text under c.in_ok-lines.ensures in
+    let says = reads_cut c.args.options.logs c.args.options.gap input c.split_at.result.0.now c.split_at.result.1.now sc (Ok c.in_ok-lines.lines) text under c.in_ok-lines.ensures in
     let p = err_from_is_err_and c.from_residual-in_err-report.result c.from_residual-in_err-report.ensures.1 in
     rw (p.1, p.2) (
     failed_to c.args.options input (g.K.Sink.written c.args.sink.now) (g.K.Sink.failures c.args.sink.now) sc c.in_ok-lines.lines.items means says
     (g.K.Sink.written c.write_order.new.sink) (g.K.Sink.failures c.write_order.new.sink) c.in_err-report.field-0.0
-    (subst (λ (ls : List NumberedLine). WroteOrder (IsAnswerOf c.args.options.wording sc (lines_in ls)) (g.K.Sink.written c.args.sink.now)
+    (subst (λ (ls : List NumberedLine). WroteOrder (IsAnswerOf c.args.options sc ls) (g.K.Sink.written c.args.sink.now)
     (g.K.Sink.written c.write_order.new.sink) (g.K.Sink.failures c.args.sink.now) (g.K.Sink.failures c.write_order.new.sink) (Err c.in_err-report.field-0.0))
     c.deref.ensures.value c.in_err-report.ensures)
     )
@@ -63,9 +63,9 @@ returns g c =
     let text = text_is input c.split_at.result.0.now c.cut_len.result c.split_at.ensures.front c.cut_len.ensures in
     let under = below_is input c.split_at.result.1.now c.cut_len.result c.split_at.ensures.back c.cut_len.ensures in
     let means = subst (λ t. Means t sc) text c.in_ok-scenario.ensures.found.0 in
-    let says = reads_cut c.args.options.logs input c.split_at.result.0.now c.split_at.result.1.now sc (Ok c.in_ok-lines.lines) text under c.in_ok-lines.ensures in
+    let says = reads_cut c.args.options.logs c.args.options.gap input c.split_at.result.0.now c.split_at.result.1.now sc (Ok c.in_ok-lines.lines) text under c.in_ok-lines.ensures in
     wrote_to c.args.options input (g.K.Sink.written c.args.sink.now) (g.K.Sink.failures c.args.sink.now) sc c.in_ok-lines.lines.items means says
     (g.K.Sink.written c.write_order.new.sink) (g.K.Sink.failures c.write_order.new.sink) c.in_ok-report.report
-    (subst (λ (ls : List NumberedLine). WroteOrder (IsAnswerOf c.args.options.wording sc (lines_in ls)) (g.K.Sink.written c.args.sink.now)
+    (subst (λ (ls : List NumberedLine). WroteOrder (IsAnswerOf c.args.options sc ls) (g.K.Sink.written c.args.sink.now)
     (g.K.Sink.written c.write_order.new.sink) (g.K.Sink.failures c.args.sink.now) (g.K.Sink.failures c.write_order.new.sink) (Ok c.in_ok-report.report))
     c.deref.ensures.value c.in_ok-report.ensures)

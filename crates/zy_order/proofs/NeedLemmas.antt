@@ -1,0 +1,128 @@
+-- Cursors that need no more missing steps than others: what leads on from the others leads on from them.
+use Rattle.std.proofs.Common.{◌≡◌, ◌∙◌, ℕ, ◌+◌, ◌<◌, ◌≤◌, inl, inr, List, refl, sym, ap, subst, arith, length, slice_get, Some}
+use Rattle.zy_isa.specs.declared.node.Actor.{Actor}
+use Rattle.zy_isa.specs.declared.node.Actor.TheVariants.{C, A, B}
+use Rattle.zy_isa.specs.Choices.{actor_of}
+use Rattle.zy_table.specs.declared.entry.Entry.{Entry}
+use Rattle.zy_logs.specs.declared.log_line.LogLine.{LogLine}
+use Rattle.zy_order.specs.declared.logs.Logs.{Logs}
+use Rattle.zy_order.specs.declared.cursors.Cursor.{Cursor}
+use Rattle.zy_order.specs.declared.cursors.Cursors.{Cursors}
+use Rattle.zy_order.specs.Gaps.{gaps_of}
+use Rattle.zy_order.specs.Ways.{log_of, cursor_of, cursor, gap_at, passed, filled, advanced, with_missing, of_nodes}
+use Rattle.zy_order.specs.Ways.{NeedsNoMore, NeedNoMore, IsNoFurther, AreMatched, HasNext, HasGap, Leads}
+
+-- ---- cursors
+
+-- a cursor needs no more than itself
+needs_self : (p : Cursor) → NeedsNoMore p p
+needs_self p = record { lines = refl; missing = omega arith }
+
+-- nor than with one missing step more
+needs_filled : (p : Cursor) → NeedsNoMore p (filled p)
+needs_filled p = record { lines = refl; missing = omega arith }
+
+-- where it needs no more than another, and that no more than a third, it needs no more than the third
+needs_on : (p q r : Cursor) → NeedsNoMore p q → NeedsNoMore q r → NeedsNoMore p r
+needs_on p q r x y = record { lines = x.lines ∙ y.lines; missing = omega (arith, x.missing, y.missing) }
+
+-- so it is behind the next line
+needs_passed : (p q : Cursor) → NeedsNoMore p q → NeedsNoMore (passed p) (passed q)
+needs_passed p q x = record { lines = ap (λ n. n + 1) x.lines; missing = omega arith }
+
+-- and with a missing step more
+needs_both : (p q : Cursor) → NeedsNoMore p q → NeedsNoMore (filled p) (filled q)
+needs_both p q x = record { lines = x.lines; missing = omega (arith, x.missing) }
+
+-- ---- the same of three actors
+
+pub need_self : (g : Cursors) → NeedNoMore g g
+need_self g = record { of_c = needs_self g.c; of_a = needs_self g.a; of_b = needs_self g.b }
+
+pub need_on : (f g k : Cursors) → NeedNoMore f g → NeedNoMore g k → NeedNoMore f k
+need_on f g k x y = record {
+  of_c = needs_on f.c g.c k.c x.of_c y.of_c;
+  of_a = needs_on f.a g.a k.a x.of_a y.of_a;
+  of_b = needs_on f.b g.b k.b x.of_b y.of_b;
+}
+
+-- cursors need no more than with a missing step more of an actor
+pub need_missing : (x : Actor) (g : Cursors) → NeedNoMore g (with_missing x g)
+need_missing C g = record { of_c = needs_filled g.c; of_a = needs_self g.a; of_b = needs_self g.b }
+need_missing A g = record { of_c = needs_self g.c; of_a = needs_filled g.a; of_b = needs_self g.b }
+need_missing B g = record { of_c = needs_self g.c; of_a = needs_self g.a; of_b = needs_filled g.b }
+
+-- behind the next line of an actor they need no more
+need_advanced : (x : Actor) (f g : Cursors) → NeedNoMore f g → NeedNoMore (advanced x f) (advanced x g)
+need_advanced C f g n = record { of_c = needs_passed f.c g.c n.of_c; of_a = n.of_a; of_b = n.of_b }
+need_advanced A f g n = record { of_c = n.of_c; of_a = needs_passed f.a g.a n.of_a; of_b = n.of_b }
+need_advanced B f g n = record { of_c = n.of_c; of_a = n.of_a; of_b = needs_passed f.b g.b n.of_b }
+
+-- nor where both have made a missing step more
+need_both : (x : Actor) (f g : Cursors) → NeedNoMore f g → NeedNoMore (with_missing x f) (with_missing x g)
+need_both C f g n = record { of_c = needs_both f.c g.c n.of_c; of_a = n.of_a; of_b = n.of_b }
+need_both A f g n = record { of_c = n.of_c; of_a = needs_both f.a g.a n.of_a; of_b = n.of_b }
+need_both B f g n = record { of_c = n.of_c; of_a = n.of_a; of_b = needs_both f.b g.b n.of_b }
+
+-- of each actor
+need_of : (x : Actor) (f g : Cursors) → NeedNoMore f g → NeedsNoMore (cursor_of x f) (cursor_of x g)
+need_of C f g n = n.of_c
+need_of A f g n = n.of_a
+need_of B f g n = n.of_b
+
+-- ---- what leads on
+
+-- a next line is next, too
+next_less : (l : Logs) (f g : Cursors) (e : Entry) → NeedNoMore f g → HasNext l g e → HasNext l f e
+next_less l f g e n next =
+    let x = actor_of e.choice in
+    record {
+      line = next.line;
+      next = ap (λ k. slice_get (log_of x l) k) (need_of x f g n).lines ∙ next.next;
+      choice = next.choice;
+      agrees = next.agrees;
+    }
+
+-- and where one missing step more is possible, it is
+gap_less : (x : Actor) (l : Logs) (f g : Cursors) → NeedNoMore f g → HasGap x l g → HasGap x l f
+gap_less x l f g n gap =
+    let is = need_of x f g n in
+    let same : gap_at (gaps_of x l.gaps) (cursor_of x f) ≡ gap_at (gaps_of x l.gaps) (cursor_of x g) =
+    ap (λ k. gap_at (gaps_of x l.gaps) (record { lines = k; missing = 0 })) is.lines in
+    omega (arith, is.missing, same, gap)
+
+-- where a step leads from cursors that need no more than others
+pub record LeadsLess (count : ℕ) (l : Logs) (f : Cursors) (e : Entry) (next : Cursors) : Type 0 where
+  pub to : Cursors
+  pub leads : Leads count l f e to
+  pub need : NeedNoMore to next
+
+-- a step that leads on from the others leads on from them, to cursors that need no more
+pub leads_less : (count : ℕ) (l : Logs) (f g : Cursors) (e : Entry) (next : Cursors) → NeedNoMore f g → Leads count l g e next → LeadsLess count l f e next
+leads_less count l f g e next n leads =
+    let x = actor_of e.choice in
+    elim leads [
+      | inl by ↦ record {
+        to = advanced x f;
+        leads = inl (next_less l f g e n by.0, refl);
+        need = subst (NeedNoMore (advanced x f)) (sym by.1) (need_advanced x f g n);
+      }
+      | inr by ↦ record {
+        to = with_missing x f;
+        leads = inr (record { named = by.0.named; gap = gap_less x l f g n by.0.gap }, refl);
+        need = subst (NeedNoMore (with_missing x f)) (sym by.1) (need_both x f g n);
+      }
+    ]
+
+-- ---- where they lead in the end
+
+-- they match all lines where the others do
+pub matched_less : (l : Logs) (f g : Cursors) → NeedNoMore f g → AreMatched l g → AreMatched l f
+matched_less l f g n end = record { of_c = n.of_c.lines ∙ end.of_c; of_a = n.of_a.lines ∙ end.of_a; of_b = n.of_b.lines ∙ end.of_b }
+
+-- where they are no further than third ones, the others are not either
+pub no_further_less : (f g k : Cursors) → NeedNoMore f g → IsNoFurther f k → IsNoFurther g k
+no_further_less f g k n x = record {
+  nodes = omega (arith, x.nodes, n.of_a.lines, n.of_b.lines);
+  client = λ e. omega (arith, x.client (omega (arith, e, n.of_a.lines, n.of_b.lines)), n.of_c.lines);
+}
