@@ -209,7 +209,7 @@ fn debug_command<'a>(alloc: Global) -> Result<Command<'a>, AllocError> {
 const SEARCH_HELP: &'static str = concat!(
     "Input:   a scenario text, or with --image an image, at most 4194304 bytes; its choices are steps\n",
     "         already taken\n",
-    "PipeSink:  the scenario with a shortest list of further choices that leads there; nothing where\n",
+    "Output:  the scenario with a shortest list of further choices that leads there; nothing where\n",
     "         there is none. A text keeps its names and comments. Standard error has the number of\n",
     "         states reached; a fault is one line there\n",
     "Status:  0 found, 1 the input is rejected, 2 the command line is wrong, 3 out of memory,\n",
@@ -299,7 +299,7 @@ fn search_command<'a>(alloc: Global) -> Result<Command<'a>, AllocError> {
 /// What is below the options of `find`.
 const FIND_HELP: &'static str = concat!(
     "Input:   a scenario text, or with --image an image, at most 4194304 bytes\n",
-    "PipeSink:  the positions of its run at which the state meets GOAL, one a line: how many choices\n",
+    "Output:  the positions of its run at which the state meets GOAL, one a line: how many choices\n",
     "         are made there; a fault is one line on standard error\n",
     "Status:  0 there are some, 1 the input is rejected, 2 the command line is wrong,\n",
     "         3 out of memory, 4 there is none, 5 the input or the output failed\n",
@@ -338,7 +338,7 @@ const ORDER_HELP: &'static str = concat!(
     "Input:   a scenario text through its end line, and below it lines of the logs of C, A and B, each\n",
     "         actor's own in order, else mixed in any way; at most 4194304 bytes. The scenario's choices\n",
     "         are steps already taken\n",
-    "PipeSink:  the scenario with the choices of an order of all lines behind its own, in which the step\n",
+    "Output:  the scenario with the choices of an order of all lines behind its own, in which the step\n",
     "         table gives each line what it tells; nothing where there is none. A text keeps its names\n",
     "         and comments. Standard error has the number of states reached and, where there is none,\n",
     "         the furthest that an order comes, with the lines that do not fit there; a fault is one\n",
