@@ -98,7 +98,7 @@ plan_is p h lines gaps same is input choices =
     record {
       lines = λ x. subst (AreLinesOf count x) (sym (log_is x lines gaps p.logs is)) (lines_are_of count x lines named);
       gaps = λ x.
-          ap (λ (g : Gaps). length (gaps_of x g)) is.of_gaps ∙ (input.gaps x
+          ap (λ (g : Gaps). length (gaps_of x g)) is.of_gaps ∙ (input.many x
           ∙ ap (λ (ls : List LogLine). length ls + 1) (sym (log_is x lines gaps p.logs is)));
       room = omega (
         arith,

@@ -1,13 +1,19 @@
 -- One path after another is followed.
-use Rattle.std.proofs.Common.{◌≡◌, ◌∙◌, ℕ, ◌<◌, ◌≤◌, inl, inr, List, [], ◌∷◌, ◌++◌, length, refl, ◌+◌, Bool, ◌&&◌, sym, ap, subst, arith, true, get_or}
+use Rattle.std.proofs.Common.{◌≡◌, ◌∙◌, ℕ, zero, suc, slice_get, ◌<◌, ◌≤◌, inl, inr, List, [], ◌∷◌, ◌++◌, length, refl, ◌+◌, Bool, ◌&&◌, sym, ap, subst, arith, true, get_or}
 use Rattle.std.proofs.Common.{Option, None, Some, Result, Ok, Err, OnOk, IfOk}
-use Rattle.std.specs.Prelude.{Contains, IsSome, option_to_list}
+use Rattle.std.specs.Prelude.{Contains, IsSome, option_to_list, sum}
+use Rattle.std.proofs.lemmas.List.Sums.{sum_by-cons}
 use Rattle.std.proofs.Math.Bool.{false≢true}
 use Rattle.std.proofs.lemmas.Bool.{cases_lt}
 use Rattle.std.proofs.lemmas.List.Elements.{Contains-append_left, Contains-push, Contains-push_cases}
 use Rattle.zy_isa.specs.declared.choice.Choice.{Choice}
 use Rattle.zy_isa.specs.declared.choice.Choice.TheVariants.{Start, Begin, Kill, Run, Take, Finish, Push}
-use Rattle.zy_isa.specs.Choices.{names_below}
+use Rattle.zy_isa.specs.declared.node.Actor.{Actor}
+use Rattle.zy_isa.specs.declared.node.Actor.TheVariants.{C, A, B}
+use Rattle.zy_isa.specs.Choices.{actor_of, names_below}
+use Rattle.zy_table.specs.Play.{step}
+use Rattle.zy_logs.specs.declared.log_line.LogLine.{LogLine}
+use Rattle.zy_search.specs.Searches.{reached}
 use Rattle.zy_machine.specs.Histories.{History}
 use Rattle.zy_search.specs.Visits.{path_at}
 use Rattle.zy_search.specs.Choices.{is_considered, considered}
@@ -20,9 +26,12 @@ use Rattle.zy_order.specs.declared.cursors.Cursors.{Cursors}
 use Rattle.zy_order.specs.declared.plan.Plan.{Plan}
 use Rattle.zy_order.specs.declared.reached.Reached.{Reached}
 use Rattle.zy_order.specs.declared.turns.Turns.{Turns}
-use Rattle.zy_order.specs.Ways.{cursors_in, AreMatched}
+use Rattle.zy_order.specs.declared.gaps.Gaps.{Gaps}
+use Rattle.zy_order.specs.Gaps.{gaps_of, gap_count}
+use Rattle.zy_order.specs.Orders.{entry_at}
+use Rattle.zy_order.specs.Ways.{log_of, cursor_of, cursor, cursors_in, gap_at, advanced, with_missing, AreMatched, HasNext, HasGap}
 use Rattle.zy_order.specs.Reaches.{all_kinds, cursors_at, IsReached, Extends, IsMet, AreMet, IsTried, AreTried, IsFollowed, AreFollowedBut, HasEachActor}
-use Rattle.zy_order.specs.Reaches.{Adds, IsTaken, IsWayOf}
+use Rattle.zy_order.specs.Reaches.{Adds, IsPlan, IsTaken, IsWayOf, IsKnown, entry_by, state_by}
 use Rattle.zy_order.proofs.ReachLemmas.{extends_same, tried_on, followed_on}
 
 -- ---- what is to do
@@ -120,7 +129,56 @@ all_met h l r at t all first second third = λ x.
           ]
     ]
 
+-- where the next line of an actor leads to a state that is known, the line is met
+pub met_by : (h : History) (l : Logs) (r new : Reached) (i : ℕ) (x : Actor) (line : LogLine) (g to : Cursors) → Extends r new → i < length r.visited
+    → g ≡ cursors_at r i → to ≡ advanced x g → slice_get (log_of x l) (cursor x g) ≡ Some line → IsKnown h new to (state_by h r i line.choice)
+    → IsMet h l new i x
+met_by h l r new i x line g to e lt here there at known = λ c own.
+    let next_at : slice_get (log_of x l) (cursor x (cursors_at r i)) ≡ Some line =
+    subst (λ (f : Cursors). slice_get (log_of x l) (cursor x f) ≡ Some line) here at in
+    let after : IsKnown h new (advanced x (cursors_at r i)) (state_by h r i line.choice) =
+    subst (λ (f : Cursors). IsKnown h new f (state_by h r i line.choice)) (there ∙ ap (advanced x) here) known in
+    subst (λ (f : Cursors). HasNext l f (entry_by h new i c) → IsKnown h new (advanced x f) (state_by h new i c)) (sym (e.cursors i lt))
+    (subst (λ (path : List Choice). HasNext l (cursors_at r i) (entry_at h.scenario (reached h path) c)
+    → IsKnown h new (advanced x (cursors_at r i)) (step h.scenario c (reached h path)).after) (sym (e.paths.same i lt))
+    (λ next.
+    let own_at : slice_get (log_of x l) (cursor x (cursors_at r i)) ≡ Some next.line =
+    subst (λ (y : Actor). slice_get (log_of y l) (cursor y (cursors_at r i)) ≡ Some next.line) own next.next in
+    let both : Some line ≡ Some next.line = sym next_at ∙ own_at in
+    let one : line ≡ next.line = cc both in
+    let same : line.choice ≡ c = ap (λ (m : LogLine). m.choice) one ∙ next.choice in
+    subst (λ (d : Choice). IsKnown h new (advanced x (cursors_at r i)) (state_by h r i d)) same after))
+
 -- ---- missing steps
+
+-- where a choice leads to a state that is known, it is tried
+pub tried_by : (h : History) (l : Logs) (r new : Reached) (i : ℕ) (c : Choice) (to : Cursors) → Extends r new → i < length r.visited
+    → to ≡ with_missing (actor_of c) (cursors_at r i) → IsKnown h new to (state_by h r i c) → IsTried h l new i c
+tried_by h l r new i c to e lt there known =
+    let x = actor_of c in
+    let after : IsKnown h new (with_missing x (cursors_at r i)) (state_by h r i c) =
+    subst (λ (f : Cursors). IsKnown h new f (state_by h r i c)) there known in
+    subst (λ (f : Cursors). HasGap x l f → IsKnown h new (with_missing x f) (state_by h new i c)) (sym (e.cursors i lt))
+    (subst (λ (path : List Choice). HasGap x l (cursors_at r i)
+    → IsKnown h new (with_missing x (cursors_at r i)) (step h.scenario c (reached h path)).after) (sym (e.paths.same i lt)) (λ gap. after))
+
+-- one number is no more than all together
+one_of_sum : (ns : List ℕ) (k : ℕ) → get_or ns k 0 ≤ sum ns
+one_of_sum [] k = omega arith
+one_of_sum (n ∷ ns) zero = omega (arith, sum_by-cons (λ m. m) n ns)
+one_of_sum (n ∷ ns) (suc k) = omega (arith, sum_by-cons (λ m. m) n ns, one_of_sum ns k)
+
+-- the gaps of an actor are no more than all together
+gaps_few : (x : Actor) (g : Gaps) → sum (gaps_of x g) ≤ gap_count g
+gaps_few C g = omega arith
+gaps_few A g = omega arith
+gaps_few B g = omega arith
+
+-- where one step more may be missing there is room to count it
+pub missing_few : (p : Plan) (x : Actor) (g : Cursors) → IsPlan p → HasGap x p.logs g → (cursor_of x g).missing < 65535
+missing_few p x g plan gap =
+    let few : gap_at (gaps_of x p.logs.gaps) (cursor_of x g) ≤ sum (gaps_of x p.logs.gaps) = one_of_sum (gaps_of x p.logs.gaps) (cursor x g) in
+    omega (arith, gap, few, gaps_few x p.logs.gaps, plan.room)
 
 -- each of the first n choices of a list is tried
 abbrev pub AreTriedTo : History → Logs → Reached → ℕ → List Choice → ℕ → Type 0

@@ -1,8 +1,7 @@
 -- Worked logs: which orders of their lines fit, computed.
-use Rattle.std.proofs.Common.{◌≡◌, ℕ, List, [], ◌∷◌, Option, None, Some, get_or, refl, ap}
+use Rattle.std.proofs.Common.{◌≡◌, ℕ, List, [], ◌∷◌, Option, None, Some, refl, ap, arith}
 use Rattle.zy_isa.specs.declared.version.Version.TheVariants.{One}
 use Rattle.zy_isa.specs.declared.node.Node.TheVariants.{A, B}
-use Rattle.zy_isa.specs.declared.node.Actor.{Actor}
 use Rattle.zy_isa.specs.declared.node.Actor.TheVariants as actor
 use Rattle.zy_isa.specs.declared.rule.Rule.TheVariants.{Held}
 use Rattle.zy_isa.specs.declared.instr.Reg.TheVariants.{R0}
@@ -20,7 +19,8 @@ use Rattle.zy_table.specs.Run.{set_step, commit_or_gone, commit_step, effect_ste
 use Rattle.zy_table.specs.Take.{arrival_step, pull_step, message_step, front_step, take_step}
 use Rattle.zy_table.specs.Play.{move, step, opening_leaves, opening}
 use Rattle.zy_logs.specs.declared.log_line.LogLine.{LogLine}
-use Rattle.zy_order.specs.Orders.{Fits, lines_of, IsMerge, IsOrder, IsPrefix, IsPrefixOrder}
+use Rattle.zy_order.specs.Gaps.{IsMissing, FillsGap, Completes}
+use Rattle.zy_order.specs.Orders.{Fits}
 
 -- opens the lines of the table that the examples use
 unfoldable table : ℕ
@@ -46,38 +46,45 @@ run came = record { choice = Run A 0; told = came; sent = None }
 abbrev lines : List LogLine
 lines = run (Some told.Did) ∷ run (Some (told.Committed (Some 1))) ∷ begins ∷ []
 
--- the client's line comes first: this is an order
-client_first : IsOrder one (opening one) lines (begins ∷ run (Some told.Did) ∷ run (Some (told.Committed (Some 1))) ∷ [])
+-- the client's line comes first: they fit
+client_first : Fits one (opening one) (begins ∷ run (Some told.Did) ∷ run (Some (told.Committed (Some 1))) ∷ [])
 unfolding table
-client_first = record { merge = record { of_c = refl; of_a = refl; of_b = refl }; fits = (((A, refl, refl), tt), ((refl, tt), (((1, refl, refl), tt), tt))) }
+client_first = (((A, refl, refl), tt), ((refl, tt), (((1, refl, refl), tt), tt)))
 
--- the lines as they stand are a merge of themselves, and do not fit: the transaction has not begun, and the run is idle
+-- the lines as they stand do not fit: the transaction has not begun, and the run is idle
 client_last : Fits one (opening one) lines → ⊥
 unfolding table
 client_last fits = let idle : outcome.Idle ≡ outcome.Did = fits.0.0 in absurd (cc idle)
 
--- these outcomes differ
-apart : Some (told.Committed (Some 1)) ≡ Some told.Did → ⊥
-apart e = absurd (cc e)
+-- ---- gaps
 
--- A's own lines keep their order: with the commit before the instruction there is no merge
-commit_first : IsMerge (begins ∷ run (Some (told.Committed (Some 1))) ∷ run (Some told.Did) ∷ []) lines → ⊥
-commit_first merge = apart (ap (λ (ls : List LogLine). (get_or ls 0 begins).told) merge.of_a)
+-- nothing fills a gap
+nothing : (n : ℕ) → FillsGap 1 n actor.A []
+nothing n = record { few = omega arith; missing = tt }
 
--- the lines with another outcome at the end of A's
-abbrev changed : List LogLine
-changed = run (Some told.Did) ∷ run (Some (told.Committed (Some 2))) ∷ begins ∷ []
+-- the lines of A complete themselves where no step may be missing
+whole : Completes 1 actor.A 1 (run (Some told.Did) ∷ []) (0 ∷ 0 ∷ []) (run (Some told.Did) ∷ [])
+whole = record { filled = []; rest = []; is = refl; gap = nothing 0; goes_on = nothing 0 }
 
--- the client's line and A's first one have a prefix of each actor's lines
-prefixes : (x : Actor) → IsPrefix (lines_of x (begins ∷ run (Some told.Did) ∷ [])) (lines_of x changed)
-prefixes actor.C = ([], refl)
-prefixes actor.A = (run (Some (told.Committed (Some 2))) ∷ [], refl)
-prefixes actor.B = ([], refl)
+-- a run of which nothing is known may be missing from the log of A
+missing : IsMissing 1 actor.A (run None)
+missing = record { is = refl; actor = refl; named = refl }
 
--- and they fit: an order of prefixes
-before_the_end : IsPrefixOrder one (opening one) changed (begins ∷ run (Some told.Did) ∷ [])
-unfolding table
-before_the_end = record { prefixes = prefixes; fits = (((A, refl, refl), tt), ((refl, tt), tt)) }
+-- it stands before the line where one step may be missing there
+filled : Completes 1 actor.A 1 (run (Some told.Did) ∷ []) (1 ∷ 0 ∷ []) (run None ∷ run (Some told.Did) ∷ [])
+filled = record { filled = run None ∷ []; rest = []; is = refl; gap = record { few = omega arith; missing = (missing, tt) }; goes_on = nothing 0 }
+
+-- it is none of B
+of_b : IsMissing 1 actor.B (run None) → ⊥
+of_b is = let same : actor.A ≡ actor.B = is.actor in absurd (cc same)
+
+-- nor is a line that tells what came
+known : IsMissing 1 actor.A (run (Some told.Did)) → ⊥
+known is = let same : Some told.Did ≡ None = ap (λ (line : LogLine). line.told) is.is in absurd (cc same)
+
+-- two missing steps do not fill a gap of one
+too_many : FillsGap 1 1 actor.A (run None ∷ run None ∷ []) → ⊥
+too_many gap = absurd (omega (arith, gap.few))
 
 -- ---- an unknown outcome
 

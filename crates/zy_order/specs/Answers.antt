@@ -17,7 +17,7 @@ use Rattle.zy_order.specs.Orders.{lines_of, IsOrder, IsPrefixOrder, choices_of}
 -- actor and one behind the last, and the history has room for all steps
 pub record IsInput (h : History) (lines : List LogLine) (gaps : Gaps) : Type 0 where
   pub named : AreNamed (length h.scenario.programs) (choices_of lines)
-  pub gaps : (x : Actor) → length (gaps_of x gaps) ≡ length (lines_of x lines) + 1
+  pub many : (x : Actor) → length (gaps_of x gaps) ≡ length (lines_of x lines) + 1
   pub room : length h.entries + (length lines + gap_count gaps) ≤ max_choices
 
 -- the choices of an order of the logs

@@ -100,7 +100,7 @@ pub input_is : (h : History) (gap : ℕ) (lines : List NumberedLine) (gaps : Gap
     → IsInput h (steps lines) gaps
 input_is h gap lines gaps follow are = record {
   named = follow.named;
-  gaps = λ x. ap (λ (ns : List ℕ). length ns) (are x) ∙ gaps_many gap x 0 lines;
+  many = λ x. ap (λ (ns : List ℕ). length ns) (are x) ∙ gaps_many gap x 0 lines;
   room = omega (
     arith,
     follow.room,
