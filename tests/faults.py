@@ -442,7 +442,7 @@ PROGRAM_FAULTS = [
     program(6, 'a found schedule has no names', 'zy_engine/src/wording.rt',
             'Some(name) if !name.is_empty() =>', 'Some(name) if name.len() > 99 =>', '^search-own-words:', 'run'),
     program(3, 'order names a next line that fits', 'zy_bench/src/furthest.rt',
-            'Some(entry) if !line.line.agrees(&entry) =>', 'Some(entry) =>', '^order-spent:', 'run'),
+            'Some(entry) if !line.agrees(&entry) =>', 'Some(entry) =>', '^order-spent:', 'run'),
     program(1, 'order does not miss the end of a scenario', 'zy_diagnostics/src/unended.rt', '!lines.any(is_end)', 'lines.any(is_end)', '^mistake: order: ', 'run'),
     program(2, 'each command misses the end of a scenario above logs', 'zy_diagnostics/src/unended.rt',
             'self.command == Command::Order', '(self.command == Command::Order || is_of_words)', '^mistake: run: ', 'run'),
