@@ -452,7 +452,7 @@ PROGRAM_FAULTS = [
             'LogFormat::Json => source.bytes', 'LogFormat::Json => source.statement().bytes', '^order-objects-nowhere:', 'run'),
     program(4, 'no word on --json for an object', 'zy_bench/src/refused_line.rt', 'starts_with(b"{")', 'starts_with(b"{{")', 'an object in place of a line', 'objects'),
     program(3, 'order names a next line that fits', 'zy_bench/src/furthest.rt',
-            'Some(entry) if !line.line.agrees(&entry) =>', 'Some(entry) =>', '^order-spent:', 'run'),
+            'Some(entry) if !line.agrees(&entry) =>', 'Some(entry) =>', '^order-spent:', 'run'),
     program(1, 'order does not miss the end of a scenario', 'zy_diagnostics/src/unended.rt', '!lines.any(is_end)', 'lines.any(is_end)', '^mistake: order: ', 'run'),
     program(2, 'each command misses the end of a scenario above logs', 'zy_diagnostics/src/unended.rt',
             'self.command == Command::Order', '(self.command == Command::Order || is_of_words)', '^mistake: run: ', 'run'),

@@ -1,5 +1,5 @@
 //! The logs that are below a scenario.
-ghost use Rattle.std.specs.Prelude.{◌≡◌, ◌==◌, ◌<◌, ◌≤◌, ◌+◌, ◌^◌, count_by, length, IfOk};
+ghost use Rattle.std.specs.Prelude.{◌≡◌, ◌==◌, ◌<◌, ◌≤◌, ◌+◌, ◌++◌, ◌^◌, count_by, length, IfOk, OnOk};
 ghost use Rattle.zy_isa.specs.Limits.{max_txns};
 ghost use Rattle.zy_io.specs.Streams.{max_input};
 ghost use Rattle.zy_logs.specs.Logs as logs;
@@ -84,15 +84,28 @@ pub fn read_below(
     }
 }
 
+/// Adds the line of a step, if it is one.
+fn add_step(steps: &mut Vec<LogLine>, logged: Logged) -> Result<(), AllocError>
+    ensures { OnOk result (steps.new.items ≡ steps.old.items ++ logs.step_of logged) }
+{
+    match logged {
+        Logged::Step(step) => {
+            steps.push(step)?;
+            Ok(())
+        }
+        Logged::Gap(_) => Ok(()),
+    }
+}
+
 /// The lines of steps, without their numbers.
 pub(crate) fn steps(alloc: Global, lines: &[NumberedLine]) -> Result<Vec<LogLine>, AllocError>
     ensures { IfOk result (λ v. v.items ≡ logs.steps lines.now) }
 {
     let mut steps = Vec::new(alloc);
-    for line in lines {
-        if let Logged::Step(step) = line.logged {
-            steps.push(step)?;
-        }
+    let mut rest = lines;
+    while let [line, below @ ..] = rest {
+        add_step(&mut steps, line.logged)?;
+        rest = below;
     }
     Ok(steps)
 }
