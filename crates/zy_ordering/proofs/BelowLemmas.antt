@@ -1,5 +1,5 @@
 -- The lines below a scenario, as they are read.
-use Rattle.std.proofs.Common.{◌≡◌, ◌∙◌, ◌∷◌, ℕ, List, [], Result, Ok, Err, None, refl, sym, ap, subst, arith, length, take, drop}
+use Rattle.std.proofs.Common.{◌≡◌, ◌∙◌, ℕ, List, Result, Ok, Err, None, ap, subst, arith, length, take, drop}
 use Rattle.std.specs.declared.vec.Vec.{Vec}
 use Rattle.std.specs.declared.alloc.Global.{Global}
 use Rattle.zy_isa.specs.Scenario.{Scenario, IsScenario, AreNamed}
@@ -15,7 +15,7 @@ use Rattle.zy_engine.specs.Searching.{history_of}
 use Rattle.zy_ordering.proofs.TakenLemmas.{ran_length}
 use Rattle.zy_ordering.specs.declared.faults.BelowFault.{BelowFault}
 use Rattle.zy_ordering.specs.declared.log_format.LogFormat.{LogFormat}
-use Rattle.zy_ordering.specs.Ordering.{below, AreTxnsOf, Says, SaysIn, ReadsBelow, ReadsLines, CanFollow, line_below, room}
+use Rattle.zy_ordering.specs.Ordering.{below, AreTxnsOf, SaysIn, ReadsBelow, ReadsLines, CanFollow, line_below, room}
 
 -- what was read of a scenario's transactions is what the lines say
 reads_below : (gap : ℕ) (text lines : List ℕ) (sc : Scenario) (txns : Txns) → AreTxnsOf sc text txns

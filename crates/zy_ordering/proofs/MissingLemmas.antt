@@ -1,5 +1,5 @@
 -- How many steps may be missing in all.
-use Rattle.std.proofs.Common.{◌≡◌, ◌∙◌, ◌≤◌, ◌+◌, ◌∷◌, ◌++◌, ℕ, suc, List, [], Bool, true, false, refl, sym, ap, subst, arith, length}
+use Rattle.std.proofs.Common.{◌≡◌, ◌∙◌, ◌+◌, ◌∷◌, ◌++◌, ℕ, suc, List, [], Bool, true, false, refl, sym, ap, arith, length}
 use Rattle.std.specs.Prelude.{if◌then◌else◌, sum}
 use Rattle.std.proofs.lemmas.List.Sums.{sum_by-cons}
 use Rattle.zy_isa.specs.declared.node.Actor.{Actor}
