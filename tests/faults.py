@@ -483,9 +483,9 @@ PROGRAM_FAULTS = [
             '^search-without-start', 'run'),
     program(6, 'an abort for a bad key is kept as one by a kill', 'zy_pack/src/codes.rt',
             'Status::Aborted(Why::BadKey) => 5,', 'Status::Aborted(Why::BadKey) => 4,', '^states that differ in the reasons', 'searches'),
-    program(5, '--threads ignored', COMMAND_LINE, 'threads: words.get_one("threads"),', 'threads: None,', "^\\['--threads', '1'\\] on ", 'searches'),
-    program(6, 'a search has two threads by itself', 'zy_engine/src/searching.rt', '        Ok(processors) => processors.get().min(MOST_THREADS as usize) as u32,',
-            '        Ok(_) => 2,', '^\\[\\] on 1 processors: ', 'searches'),
+    program(5, '--threads ignored', COMMAND_LINE, 'threads: words.get_one("threads").unwrap_or(1),', 'threads: 1,', "^\\['--threads', '2'\\]: ", 'searches'),
+    program(6, 'a search has two threads by itself', COMMAND_LINE, 'threads: words.get_one("threads").unwrap_or(1),', 'threads: words.get_one("threads").unwrap_or(2),',
+            '^\\[\\]: ', 'searches'),
     program(7, 'a goal that always holds is reported as one that no state shows', 'zy_bench/src/summary.rt',
             'write!(f, "it holds in each of {states}")', 'write!(f, "none of {states} shows it")', '^search-always:', 'run'),
 ]

@@ -284,7 +284,7 @@ fn threads_argument<'a>(alloc: Global) -> Arg<'a> {
         .long("threads")
         .value_name("N")
         .value_parser(value_parser!(u32).range(1..=64))
-        .help("Searches by N threads: 1 to 64, default one for each processor")
+        .help("Searches by N threads: 1 to 64, default 1")
 }
 
 /// `--canon`.
@@ -467,14 +467,14 @@ fn quest_of<'a>(words: &ArgMatches<'a>) -> Quest<'a> {
 }
 
 /// What a search goes by beside its goal; what was left out is all choices, the text's own words, a
-/// million states, and a thread for each processor.
+/// million states, and one thread.
 fn options_of(words: &ArgMatches<'_>) -> SearchOptions {
     SearchOptions {
         format: format_of(words),
         wording: wording_of(words),
         from: words.get_one("from").map(|count: u16| usize::from(count)),
         most: most_of(words),
-        threads: words.get_one("threads"),
+        threads: words.get_one("threads").unwrap_or(1),
     }
 }
 

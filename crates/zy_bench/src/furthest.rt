@@ -248,7 +248,7 @@ pub struct Steps {
 }
 
 impl Steps {
-    /// Those of an order of so many choices that takes so many lines.
+    /// Those of an order that takes `taken` lines and has `choices` choices in all.
     pub fn of(taken: Taken, choices: usize) -> Steps {
         let lines = taken.c.saturating_add(taken.a).saturating_add(taken.b);
         Steps {

@@ -12,7 +12,6 @@ pub mod output;
 mod same;
 pub mod searching;
 pub mod step_objects;
-mod step_words;
 pub mod threading;
 pub mod wording;
 

@@ -13,7 +13,7 @@ use crate::format::{Format, read_scenario};
 use crate::same::same_scenario;
 use crate::wording::{Wording, reworded};
 use std::alloc::{AllocError, Global};
-use std::thread::{Threads, available_parallelism};
+use std::thread::Threads;
 use zy_asm::assembling::assemble_bytes;
 use zy_disasm::ScenarioHead;
 use zy_io::writing::write_all;
@@ -21,7 +21,7 @@ use zy_io::{AllLines, LineBuffer, MAX_INPUT, One, Section, Sink, Source, TextFau
 use zy_isa::{Choice, Scenario};
 use zy_machine::{Fault, Machine};
 use zy_search::search::search;
-use zy_search::{Limits, MOST_THREADS, SearchAnswer, SearchReport, Sought, Watch};
+use zy_search::{Limits, SearchAnswer, SearchReport, Sought, Watch};
 use zy_stops::replay::{advance_to, start};
 use zy_text::Each;
 
@@ -36,8 +36,8 @@ pub struct SearchOptions {
     pub from: Option<usize>,
     /// The most states that may be reached.
     pub most: u32,
-    /// How many threads look ahead; one for each processor, where it is none. What comes of the search does not depend on it.
-    pub threads: Option<u32>,
+    /// How many threads look ahead. What comes of the search does not depend on it.
+    pub threads: u32,
 }
 
 /// The machine of a scenario that has made its first choices, or all where there are fewer.
@@ -205,17 +205,6 @@ fn write_answer<K: Sink>(
     }
 }
 
-/// How many threads look ahead; one, where the number of processors is not known.
-fn threads_of(rt: &impl Threads, wanted: Option<u32>) -> u32 {
-    if let Some(threads) = wanted {
-        return threads;
-    }
-    match available_parallelism(rt) {
-        Ok(processors) => processors.get().min(MOST_THREADS as usize) as u32,
-        Err(_) => 1,
-    }
-}
-
 /// Makes the choices of a scenario that are steps already taken, looks at the states that further ones lead to, and
 /// writes what goes out of the answer. The scenario's own text is at hand.
 fn write_search<R: Threads + Sync, K: Sink, W: Watch>(
@@ -235,7 +224,7 @@ fn write_search<R: Threads + Sync, K: Sink, W: Watch>(
     let machine = run_taken(alloc, scenario, options.from)?;
     let limits = Limits {
         states: options.most,
-        threads: threads_of(rt, options.threads),
+        threads: options.threads,
     };
     let report = search(rt, alloc, &machine, sought, limits, watch)?;
     write_answer(alloc, options.wording, text, &machine, &report.answer, sink)?;

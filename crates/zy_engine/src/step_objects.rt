@@ -3,17 +3,37 @@ ghost use Rattle.std.specs.Prelude.{◌≡◌, ◌<◌, IfOk, map};
 ghost use Rattle.zy_io.specs.Writing.{Wrote};
 ghost use Rattle.zy_table.specs.Play.{entries, opening, play};
 ghost use Rattle.zy_engine.specs.Engines.{Converts, streams};
-ghost use Rattle.zy_engine.specs.StepObjects.{object_text, objects_text};
+ghost use Rattle.zy_engine.specs.StepObjects.{action_text, object_text, objects_text};
 
 use crate::faults::BenchFault;
 use crate::format::{Format, read_scenario};
-use crate::step_words::{ActionText, KindText, OutcomeText};
 use std::alloc::{AllocError, Global};
-use zy_io::{AllLines, Line, LineBuffer, Lines, Section, Sink, Source, TextFault};
-use zy_isa::Scenario;
+use zy_io::{AllLines, Decimal, Line, LineBuffer, Lines, Section, Sink, Source, TextFault, joined};
+use zy_isa::{Choice, Scenario};
 use zy_json::PlainStep;
+use zy_listing::{KindText, OutcomeText};
 use zy_machine::Machine;
 use zy_table::Entry;
+
+/// What is done of a choice, without who does it.
+#[derive(Clone, Copy)]
+struct ActionText(Choice);
+
+impl Line for ActionText {
+    ghost text = { λ a. action_text a.0 };
+
+    fn append(&self, line: &mut LineBuffer) -> Result<(), AllocError> {
+        match self.0 {
+            Choice::Start => "start".append(line),
+            Choice::Begin(t) => joined!("begin ", Decimal(t)).append(line),
+            Choice::Kill(t) => joined!("kill ", Decimal(t)).append(line),
+            Choice::Run(_, t) => joined!("run ", Decimal(t)).append(line),
+            Choice::Take(_) => "take".append(line),
+            Choice::Finish(_) => "finish".append(line),
+            Choice::Push(_) => "push".append(line),
+        }
+    }
+}
 
 /// A step as an object, with all that a log can tell of it.
 #[derive(Clone, Copy)]

@@ -15,5 +15,5 @@ pub use crate::lines::final_state::FinalState;
 pub use crate::lines::mode::ModeLine;
 pub use crate::lines::serial::SerialLine;
 pub use crate::lines::step::StepLine;
-pub use crate::lines::words::ModeText;
+pub use crate::lines::words::{KindText, ModeText, OutcomeText};
 pub use crate::table::Table;

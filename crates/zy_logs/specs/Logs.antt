@@ -33,7 +33,7 @@ abbrev pub steps_in : ℕ → List NumberedLine → ℕ
 steps_in gap [] = 0
 steps_in gap (l ∷ lines) = steps_of gap l.logged + steps_in gap lines
 
--- line n, where there is room for its steps: for so many there is
+-- line n, where there is room for its steps: there is room for `left` steps
 abbrev pub fitting : ℕ → ℕ → ℕ → Logged → Result (Option NumberedLine) LogLineFault
 fitting gap left n logged =
     if nat_le (steps_of gap logged) left then Ok (Some (record { number = n; logged = logged })) else

@@ -13,9 +13,9 @@ use zy_text::Canonical;
 
 /// How a page is locked: `s` or `x`.
 #[derive(Clone, Copy)]
-struct KindText(LockKind);
+struct LockKindText(LockKind);
 
-impl Line for KindText {
+impl Line for LockKindText {
     ghost text = { λ k. kind_word k.0 };
 
     fn append(&self, line: &mut LineBuffer) -> Result<(), AllocError> {
@@ -44,7 +44,7 @@ impl Line for LockText {
             b':',
             Decimal(txn),
             b':',
-            KindText(kind),
+            LockKindText(kind),
         )
         .append(line)
     }
