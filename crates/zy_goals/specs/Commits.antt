@@ -30,7 +30,7 @@ is_state_fact_of_commits (state_fact.NoRow k) = true
 is_state_fact_of_commits (state_fact.Link n x) = false
 is_state_fact_of_commits (state_fact.Compare x c y) = is_term_of_commits x && is_term_of_commits y
 
--- the same of each fact
+-- the commits decide whether a fact of any kind holds
 abbrev pub is_fact_of_commits : Fact → Bool
 is_fact_of_commits fact.Differs = true
 is_fact_of_commits fact.Stuck = false

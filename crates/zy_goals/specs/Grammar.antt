@@ -144,7 +144,8 @@ pub record IsNoGoal (names : Names) (ws : List Word) (r : WordFault) : Type 0 wh
   pub nothing : (q : Query) → Means names ws q → ⊥
   pub too_long : IsTooLong names ws → r.expected ≡ expected.FewerParts
 
--- the same of a goal that every state is to meet
+-- The words mean no goal that every state is to meet. Where they are refused although they would mean one if more parts were
+-- allowed, the refusal says so.
 pub record IsNoInvariant (names : Names) (ws : List Word) (r : WordFault) : Type 0 where
   pub nothing : (q : Query) → MeansNever names ws q → ⊥
   pub too_long : IsTooLongNever names ws → r.expected ≡ expected.FewerParts

@@ -60,7 +60,7 @@ fn say(
     }
 }
 
-/// The same of the line of this number.
+/// What the line of this number says as a line of a log; a fault names the number.
 fn say_numbered(
     alloc: Global,
     scratch: &mut Scratch,

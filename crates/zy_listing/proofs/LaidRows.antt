@@ -27,7 +27,7 @@ laid-put_rows m (r ∷ rs) rows =
 pub get-map_of : (rows : List Row) (k : ℕ) → get (map_of rows) k ≡ get_row rows k
 get-map_of rows k = get-laid rows _ k ∙ ap (or_else (get_row rows k)) (get-empty nat_cmp k) ∙ or_else_none (get_row rows k)
 
--- the same with more rows over it
+-- what rows that lie over a table have at a key
 pub get-own : (rows table : List Row) (k v : ℕ) → get_row rows k ≡ Some v → get (laid rows (map_of table)) k ≡ Some v
 get-own rows table k v e = get-laid rows (map_of table) k ∙ ap (λ o. or_else o (get (map_of table) k)) e
 

@@ -41,7 +41,7 @@ step-line P k d es h told =
     let lt : k < length es = omega (arith, h, length-steps 1 es) in
     subst P (sym (steps-at 1 k d es lt ∙ ap (λ n. step_text n (get_or es k d)) (omega arith))) told
 
--- the same of a choice
+-- what holds of the line of a choice at a place of the list holds of its choice
 pub taken-line : (P : List ℕ → Type 0) (k : ℕ) (d : Entry) (es : List Entry) → k < length (map choice_text (choices_of es))
     → P (choice_text (get_or es k d).choice) → P (get_or (map choice_text (choices_of es)) k [])
 taken-line P k d es h told =

@@ -21,7 +21,7 @@ kind_word Exclusive = codes "x"
 abbrev pub lock_text : Node → Lock → List ℕ
 lock_text n x = codes " " ++ (node_text n ++ (codes ":" ++ (decimal x.txn ++ (codes ":" ++ kind_word x.kind))))
 
--- the same of a lock on page p, and nothing of another
+-- the text of a lock on page p, and nothing of another
 abbrev pub lock_on : Node → ℕ → Lock → List ℕ
 lock_on n p x = if x.page == p then lock_text n x else []
 
@@ -36,6 +36,6 @@ locked_page s p = page_text s p ++ (codes " locks" ++ (locks_on A p s.a.locks ++
 abbrev pub no_page : ℕ → List ℕ
 no_page p = codes "page " ++ (decimal p ++ codes " none")
 
--- the same, or that there is no such page
+-- the line of a page with its locks, or that there is no such page
 abbrev pub page_reply : State → ℕ → List ℕ
 page_reply s p = if is_some (page_in p (all_leaves s)) then locked_page s p else no_page p

@@ -8,7 +8,7 @@ use Rattle.zy_table.specs.Serial.{serial}
 use Rattle.zy_table.specs.State.{State}
 use Rattle.zy_listing.specs.Lone.{map_of}
 
--- the same key with the same value
+-- two entries have one key and one value
 abbrev pub same_entry : ℕ × ℕ → ℕ × ℕ → Bool
 same_entry x y = (x.0 == y.0) && (x.1 == y.1)
 

@@ -316,7 +316,7 @@ fn reads_of_most(table: &PartTable, choice: Choice, scope: Scope, numbers: &[u32
     }
 }
 
-/// The same of a run: it has a function of its own, since most choices are runs.
+/// What is read at the four places, and beside, by a run, which has a function of its own since most choices are runs.
 fn reads_of_run(n: Node, t: u8, scope: Scope, numbers: &[u32]) -> Read
     ensures { (table : List (List ℕ)) → result ≡ spec.reads table (Run n t) scope numbers.now }
 {

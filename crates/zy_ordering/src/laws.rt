@@ -18,7 +18,7 @@ pub fn found_runs()
         → MatchesAll (history_of None sc) lines gaps cs → RunsOrder sc lines gaps cs }
 {}
 
-/// The same of the choices of an order of prefixes of the logs, as a furthest one is.
+/// What holds of the choices of an order holds of those of an order of prefixes of the logs, as a furthest one is.
 pub fn furthest_runs()
     ensures tested { (sc : AScenario) (lines : List ALine) (gaps : SomeGaps) (cs : List AChoice) → IsScenario sc
         → IsInput (history_of None sc) lines gaps → MatchesPrefixes (history_of None sc) lines gaps cs

@@ -16,7 +16,7 @@ use zy_wire::Wire;
 
 /// What can be copied.
 trait Copied: Digested + Drop {
-    /// The same again, by the call under test.
+    /// A copy, made by the call under test.
     fn copied(&self, alloc: Global) -> Result<Self, Refused>;
 }
 

@@ -39,7 +39,7 @@ const OPTIONS: OrderOptions = OrderOptions {
     most: 100,
 };
 
-/// The same, where the logs are objects.
+/// What an order is looked for by where the logs are objects.
 const OPTIONS_OF_OBJECTS: OrderOptions = OrderOptions {
     logs: LogFormat::Json,
     ..OPTIONS

@@ -30,9 +30,9 @@ enum Job {
     Run,
     /// `zy_engine::threading::threads_bytes` over an input with the choices of one actor alone.
     Alone,
-    /// The same over any input, under a gate that holds B up.
+    /// `zy_engine::threading::threads_bytes` over any input, under a gate that holds B up.
     Slow,
-    /// The same, under a gate that notes its calls.
+    /// `zy_engine::threading::threads_bytes` over any input, under a gate that notes its calls.
     Noted,
 }
 
@@ -53,7 +53,7 @@ fn repeat(alloc: Global, listing: &[u8]) -> Result<(), Refused> {
     }
 }
 
-/// The same of a machine's listing.
+/// Whether a machine's listing passes `check`, and `run` of its scenario part prints it again.
 fn repeat_machine(alloc: Global, machine: &Machine) -> Result<(), Refused> {
     let mut sink = VecSink::new(room(alloc)?);
     prepared(write_listing(alloc, machine, &mut sink))?;

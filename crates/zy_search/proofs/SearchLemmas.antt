@@ -296,7 +296,7 @@ near_first i lt = rw (one_place i lt) (omega arith)
 pub spent_well : (h : History) (q : Sought) (n : ℕ) (a : SearchAnswer) → NoneBelow h q n → a ≡ Spent n → IsReached h q a
 spent_well h q n a below e = subst (IsReached h q) (sym e) below
 
--- the same of what is due
+-- so is what is due
 pub spent_due : (h : History) (q : Sought) (most n : ℕ) (a : SearchAnswer) → IsDue h q most (Spent n) → a ≡ Spent n → IsDue h q most a
 spent_due h q most n a is e = subst (IsDue h q most) (sym e) is
 

@@ -52,7 +52,7 @@ pub record IsForeseen (p : Plan) (x : Reached) (a : Ahead) : Type 0 where
   pub found : All (AreSuccessors p x a.numbers) a.found.items
   pub taken : (j : ℕ) → j < a.taken → IsTaken p x a.numbers j
 
--- the same of all that is known ahead
+-- all that is known ahead is foreseen
 pub record IsOutlook (p : Plan) (x : Reached) (o : Outlook) : Type 0 where
   pub ahead : IsForeseen p x o.ahead
   pub rest : All (IsForeseen p x) o.rest.items

@@ -51,7 +51,7 @@ abbrev pub deepest_if : Bool → ℕ
 deepest_if true = max_choices - 1
 deepest_if false = max_choices
 
--- the same for what is looked for
+-- the most choices after which a state is judged for what is looked for
 abbrev pub deepest : Sought → ℕ
 deepest q = deepest_if (asks_steps q)
 

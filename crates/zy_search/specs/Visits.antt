@@ -46,7 +46,7 @@ abbrev pub counted_if : Bool → StatePart
 counted_if true = Whole
 counted_if false = Live
 
--- the same for what is looked for
+-- how much of a state counts for what is looked for
 abbrev pub counted : Sought → StatePart
 counted q = counted_if (reads_ended q.goal)
 
@@ -93,7 +93,7 @@ IsExpanded h q paths i =
     (c : Choice) → is_considered q.kinds (length h.scenario.programs) c ≡ true
     → IsVisited h q paths (length_at paths i + 1) (step h.scenario c (reached h (path_at paths i))).after
 
--- the same of the first n paths
+-- each of the first n paths is expanded
 abbrev pub AreExpanded : History → Sought → List (List Choice) → ℕ → Type 0
 AreExpanded h q paths n = (i : ℕ) → i < n → IsExpanded h q paths i
 
@@ -228,7 +228,7 @@ MeetsWell p old new b met.Noted = Notes p.start p.sought old new b.from b.by
 MeetsWell p old new b met.Shown = ShowsNext p.start p.sought old new b.from b.by
 MeetsWell p old new b met.Spent = IsFull p.start p.sought p.most old new b.from
 
--- the same, with what is known of the states, and the machines
+-- what a choice has led to, with what is known of the states, and the machines
 pub record Meets (p : Plan) (old : List (List Choice)) (new : Reached) (b : Branch) (scratch : Scratch) (x : Met) : Type 0 where
   pub well : MeetsWell p old new.tree b x
   pub informed : IsInformed p new

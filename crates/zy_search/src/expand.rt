@@ -89,7 +89,7 @@ fn learn(
     Ok(outcome)
 }
 
-/// The same by a step that is remembered, if there is one, and else by a machine.
+/// What comes of the choice of a branch, by a step that is remembered, if there is one, and else by a machine.
 fn outcome_of(
     plan: &Plan,
     reached: &mut Reached,

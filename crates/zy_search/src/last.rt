@@ -96,7 +96,7 @@ fn with_last(
     Ok(SearchAnswer::Found(path))
 }
 
-/// The same, with one scratch machine alone.
+/// The answer where choices were found, with one more that has the outcome, by one scratch machine.
 fn with_wanted(
     plan: &Plan,
     wanted: OutcomePattern,
@@ -138,7 +138,7 @@ fn with_step_by(
     }
 }
 
-/// The same, without a scratch machine.
+/// The answer of a search, made of that of the search through the states, by a scratch machine of its own.
 pub(crate) fn with_step(plan: &Plan, answer: SearchAnswer) -> Result<SearchAnswer, Fault>
     requires whole { IsWhole plan.now }
     requires reached { IsReached plan.now.start plan.now.sought answer }

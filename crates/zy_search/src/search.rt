@@ -139,7 +139,7 @@ fn look<R: Threads + Sync, W: Watch>(
     expand_all(rt, plan, reached, scratch, watch)
 }
 
-/// The same, with scratch machines of its own.
+/// Looks at the state of the start, and then at those that choices lead to, with scratch machines of its own.
 fn search_by<R: Threads + Sync, W: Watch>(
     rt: &R,
     plan: &Plan,

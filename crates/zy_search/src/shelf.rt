@@ -45,7 +45,7 @@ impl Shelf {
         Shelf::sized(alloc, start, MOST_PAGES / pages, MOST_STEPS)
     }
 
-    /// The same, with room for this number of machines, each of which may have made this number of steps.
+    /// No machine but the scratch machine, with room for `most` machines, each of which may have made `steps` steps.
     pub fn sized(alloc: Global, start: &Machine, most: usize, steps: usize) -> Result<Shelf, Fault>
         ensures spots { IfOk result (λ s. s.spots.items ≡ []) }
         ensures spare { IfOk result (λ s. s.spare ≡ start.now) }

@@ -126,7 +126,7 @@ pub(crate) fn shows_all(
     may_follow(alloc, sought.kinds, sought.then, choices, machine, spare)
 }
 
-/// The same, as a test of the fact `Shows`.
+/// Whether the fact `Shows` holds of a machine's state. The considered choices are tried on another machine.
 pub(crate) fn shows(
     alloc: Global,
     sought: &Sought,

@@ -43,7 +43,7 @@ fn locks_page(locks: &mut Locks, page: u16, txn: u8, kind: LockKind) -> Result<b
     Ok(true)
 }
 
-/// The same, where the call finds the place itself.
+/// A lock where nothing is in the way, at the place that the call finds itself.
 fn locks_anew(locks: &mut Locks, page: u16, txn: u8, kind: LockKind) -> Result<bool, AllocError> {
     let Some(at) = locks.free_place(page, txn, kind) else {
         return Ok(false);

@@ -31,7 +31,7 @@ const MISSING: [&[u8; 7]; 8] = [
     b"5......", b".......", b".3.....", b"...3...", b"...4..0", b"..6....", b"....67.", b"....7..",
 ];
 
-/// The same where all pages are here.
+/// Where all pages are here, a line for each mode and a column for each kind, as in MISSING.
 const ALL_HERE: [&[u8; 7]; 8] = [
     b"5......", b".......", b".3.....", b"...3...", b"...4..0", b"..6....", b"....61.", b"....1..",
 ];
