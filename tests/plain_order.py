@@ -137,15 +137,37 @@ def rank(made):
     return a + b, -client
 
 
-def order(scenario, state, all_logs, gap, most):
-    """Whether there is an order of the logs from a state on, if at most so many places are reached."""
+def is_did(log, at):
+    """Whether the line at a place of a log is a run that did."""
+    return any(line.choice[1] == 'run' and line.told == ['did'] for line in log[at:at + 1])
+
+
+def places_by_did(scenario, logs, rooms, place):
+    """The place one line further of a node, A if both have one, whose next line is a run that did, if that fits and no step can be missing before it."""
+    for x in (ACTORS.index('A'), ACTORS.index('B')):
+        if is_did(logs[x], place.made[x]) and place.missing[x] >= rooms[x][place.made[x]]:
+            after = [after for after in places_by_lines(scenario, logs, place) if after.made[x] > place.made[x]]
+            if after:
+                return after
+    return []
+
+
+def places_after(scenario, logs, rooms, place):
+    """The places one step further."""
+    return [*places_by_lines(scenario, logs, place), *places_by_missing(scenario, rooms, place)]
+
+
+def order(scenario, state, all_logs, gap, most, reduced=True):
+    """Whether there is an order of the logs from a state on, if at most so many places are reached. If it is reduced, a run that did is followed alone: it may
+    come before all that the others do."""
     logs, rooms = [made_of(log) for log in all_logs], [room_in(log, gap) for log in all_logs]
     places, level = set(), {Place((0, 0, 0), (0, 0, 0), state)}
     while level:
         places |= level
         if len(places) > most:
             raise TooMany
-        level = {after for place in level for after in (*places_by_lines(scenario, logs, place), *places_by_missing(scenario, rooms, place))} - places
+        alone = {place: reduced and places_by_did(scenario, logs, rooms, place) for place in level}
+        level = {after for place in level for after in alone[place] or places_after(scenario, logs, rooms, place)} - places
     found = any(place.made == tuple(map(len, logs)) for place in places)
     best = max(rank(place.made) for place in places)
     return Answer('found' if found else 'none', places, [place for place in places if rank(place.made) == best])

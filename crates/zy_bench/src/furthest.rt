@@ -150,46 +150,68 @@ impl Furthest {
         None
     }
 
-    /// What comes of a choice at its end, if it may be made there.
-    fn entry(&self, alloc: Global, choice: Choice) -> Result<Option<Entry>, Fault> {
+    /// The step that comes at its end of the choice of a line that does not fit there.
+    fn instead(&self, alloc: Global, line: LogLine) -> Result<Option<Entry>, Fault> {
         let mut machine = self.machine.copy(alloc)?;
-        let count = machine.scenario().programs().len();
-        if choice.names_below(count) && machine.len() < MAX_CHOICES {
-            return Ok(Some(machine.step(choice)?));
+        unfit(&mut machine, line)
+    }
+
+    /// The first line of the client that does not fit where those before it are made behind its end, on a machine that is there,
+    /// and the step that comes in its place.
+    fn later(&self, machine: &mut Machine) -> Result<Option<(NumberedStep, Entry)>, Fault> {
+        let mut passed = 0usize;
+        for line in &self.lines {
+            if let Some(next) = step_by(line, Actor::C) {
+                if passed < self.taken.c {
+                    passed = passed.saturating_add(1);
+                } else if let Some(entry) = unfit(machine, next.step)? {
+                    return Ok(Some((next, entry)));
+                }
+            }
         }
         Ok(None)
     }
 
-    /// The step that comes at its end of the choice of a line that does not fit there.
-    fn instead(&self, alloc: Global, line: LogLine) -> Result<Option<LineBuffer>, Fault> {
-        match self.entry(alloc, line.choice)? {
-            Some(entry) if !line.agrees(&entry) => Ok(Some(step_line(alloc, &entry)?)),
-            _ => Ok(None),
+    /// Says on standard error which next lines do not fit, and what the table gives. Where each fits, only lines of the client are
+    /// left, and the first of them that does not fit behind the others is named.
+    pub fn tell<R: Eprint + AllocGlobal>(&self, rt: &R, file: Option<&str>, input: &[u8]) {
+        let mut is_named = false;
+        for actor in [Actor::C, Actor::A, Actor::B] {
+            if let Some(next) = self.next(actor) {
+                if let Ok(Some(entry)) = self.instead(rt.alloc(), next.step) {
+                    is_named = true;
+                    self.tell_line(rt, file, input, next, &entry);
+                }
+            }
+        }
+        if !is_named {
+            self.tell_later(rt, file, input);
         }
     }
 
-    /// Says on standard error which next lines do not fit, and what the table gives.
-    pub fn tell<R: Eprint + AllocGlobal>(&self, rt: &R, file: Option<&str>, input: &[u8]) {
-        for actor in [Actor::C, Actor::A, Actor::B] {
-            if let Some(next) = self.next(actor) {
-                self.tell_line(rt, file, input, next);
+    /// Says what the table gives in the place of the first line of the client that does not fit behind the others.
+    fn tell_later<R: Eprint + AllocGlobal>(&self, rt: &R, file: Option<&str>, input: &[u8]) {
+        if let Ok(mut machine) = self.machine.copy(rt.alloc()) {
+            if let Ok(Some((line, entry))) = self.later(&mut machine) {
+                self.tell_line(rt, file, input, line, &entry);
             }
         }
     }
 
-    /// Says what the table gives in the place of a line, if that does not fit. Out of memory it says nothing.
+    /// Says what the table gives in the place of a line that does not fit. Out of memory it says nothing.
     fn tell_line<R: Eprint + AllocGlobal>(
         &self,
         rt: &R,
         file: Option<&str>,
         input: &[u8],
-        next: NumberedStep,
+        line: NumberedStep,
+        entry: &Entry,
     ) {
-        if let Ok(Some(step)) = self.instead(rt.alloc(), next.step) {
-            let source = SourceLine::of(input, next.number);
+        if let Ok(step) = step_line(rt.alloc(), entry) {
+            let source = SourceLine::of(input, line.number);
             let unfit = Unfit {
                 file,
-                number: next.number,
+                number: line.number,
                 bytes: match self.logs {
                     LogFormat::Text => source.statement().bytes,
                     LogFormat::Json => source.bytes,
@@ -199,6 +221,19 @@ impl Furthest {
             let _ = eprintln!(rt; "{unfit}");
         }
     }
+}
+
+/// Makes the choice of a line on a machine, if it may be made there, and returns the step where the line does not agree with it.
+fn unfit(machine: &mut Machine, line: LogLine) -> Result<Option<Entry>, Fault> {
+    let count = machine.scenario().programs().len();
+    if !line.choice.names_below(count) || MAX_CHOICES <= machine.len() {
+        return Ok(None);
+    }
+    let entry = machine.step(line.choice)?;
+    if line.agrees(&entry) {
+        return Ok(None);
+    }
+    Ok(Some(entry))
 }
 
 /// The lines of the logs that are below a machine's scenario.
