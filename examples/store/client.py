@@ -16,8 +16,8 @@ PATIENCE = (0.04, 0.1)
 
 
 class Client:
-    def __init__(self, scenario, ports, log, seed):
-        self.scenario, self.ports, self.random = scenario, ports, random.Random('%s C' % seed)
+    def __init__(self, scenario, ports, log, form, seed):
+        self.scenario, self.ports, self.form, self.random = scenario, ports, form, random.Random('%s C' % seed)
         self.log_file = open(log, 'w', encoding='utf-8')
         self.turn = threading.Lock()
         self.control = {name: self.connect(name) for name in ports}
@@ -31,13 +31,14 @@ class Client:
         """A step of the client, made by the first of some nodes that answers. Its line is there before it is asked, and what came of it is added: if a node
         crashes, the line stays without."""
         with self.turn:
-            self.log_file.write('C ' + ' '.join(map(str, request)))
+            self.log_file.write(self.form.head('C', ' '.join(map(str, request))))
             self.log_file.flush()
             try:
                 answer = next(filter(None, (frames.ask(self.control[name], *request) for name in names)))
             except (EOFError, OSError):
                 threading.Event().wait()   # a node has crashed, and this process is soon killed, too
-            self.log_file.write(' -> %s\n' % answer)
+            outcome, _, sent = answer.partition(' ! ')
+            self.log_file.write(self.form.tail(outcome, sent))
             self.log_file.flush()
             return answer
 

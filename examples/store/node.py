@@ -28,8 +28,8 @@ class Transaction:
 
 
 class Node:
-    def __init__(self, name, scenario, link, fault, log, seed):
-        self.name, self.scenario, self.link, self.slips = name, scenario, link, Slips(fault)
+    def __init__(self, name, scenario, link, fault, log, form, seed):
+        self.name, self.scenario, self.link, self.slips, self.form = name, scenario, link, Slips(fault), form
         self.random = random.Random('%s %s' % (seed, name))
         self.log_file = open(log, 'w', buffering=1, encoding='utf-8')
         self.latch, self.outbox, self.message = threading.Condition(), queue.Queue(), None
@@ -56,7 +56,7 @@ class Node:
 
     def log(self, action, outcome):
         """Writes down a step of this node, and lets its message go."""
-        self.log_file.write('%s %s -> %s%s\n' % (self.name, action, outcome, ' ! ' + self.message[0] if self.message else ''))
+        self.log_file.write(self.form.head(self.name, action) + self.form.tail(outcome, self.message and self.message[0]))
         self.post()
 
     def post(self):

@@ -13,6 +13,7 @@ from collections import namedtuple
 from itertools import zip_longest
 
 from faults import FAULTS
+from lines import form_of
 
 HERE = os.path.dirname(os.path.realpath(__file__))
 TOP = os.path.dirname(os.path.dirname(HERE))
@@ -65,11 +66,11 @@ class Failed(Exception):
     """The store did not run, for this reason."""
 
 
-def log_of(folder, name):
+def log_of(folder, name, is_json):
     """The text of a log; none where a crash came before it was made. Where a crash cut off the end of its last line, that is ended here."""
     path = os.path.join(folder, name + '.log')
     text = content(path) if os.path.exists(path) else ''
-    return text + '\n' * (not text.endswith('\n') and text != '')
+    return text if text.endswith('\n') or not text else text + form_of(is_json).NO_TAIL
 
 
 def content(*path):
@@ -83,8 +84,8 @@ def put(text, *path):
         file.write(text)
 
 
-def ask(command, given, text=True):
-    return subprocess.run([PROGRAM, command], input=given if text else given.encode(), capture_output=True, text=text, check=False)
+def ask(words, given, text=True):
+    return subprocess.run([PROGRAM, *words], input=given if text else given.encode(), capture_output=True, text=text, check=False)
 
 
 # The store of this folder. Another one takes the same words, and writes the same files.
@@ -122,32 +123,32 @@ def add_store(parser):
 
 def tested(text):
     """A scenario's text, if `zy_bench` takes it."""
-    answer = ask('asm', text, text=False)
+    answer = ask(['asm'], text, text=False)
     if answer.returncode:
         raise Failed(answer.stderr.decode(errors='replace').strip())
     return text
 
 
-def play(text, folder, seed, fault=None, crash=None, store=STORE):
+def play(text, folder, seed, fault=None, crash=None, store=STORE, is_json=False):
     """A round: a store runs a scenario, with a fault or until it crashes, and the logs that it writes into a folder are judged."""
     put(text, folder, 'scenario')
-    words = ['--seed', str(seed)] + (['--fault', fault] if fault else []) + (['--crash', '%.4f' % crash] if crash else [])
+    words = ['--seed', str(seed)] + (['--fault', fault] if fault else []) + (['--crash', '%.4f' % crash] if crash else []) + ['--json'] * is_json
     begun = time.monotonic()
     slips = run_store([os.path.join(folder, 'scenario'), folder, *words], bool(crash), LIMIT, store)
     ran = time.monotonic() - begun
-    logs = ''.join(log_of(folder, name) for name in ('client', 'a', 'b'))
+    logs = ''.join(log_of(folder, name, is_json) for name in ('client', 'a', 'b'))
     put(text + logs, folder, 'input')
     has_end = not crash and os.path.exists(os.path.join(folder, 'end'))
-    verdict, lines = judged(text + logs, content(folder, 'end') if has_end else None)
+    verdict, lines = judged(text + logs, content(folder, 'end') if has_end else None, is_json)
     return Round(verdict, lines, logs, slips, ran, time.monotonic() - begun - ran)
 
 
-def judged(text, end):
+def judged(text, end, is_json):
     """What is said of a scenario with logs, and of the store's end if there is one: logs have no rows and no registers."""
-    answer = ask('order', text)
+    answer = ask(['order', '--json'] if is_json else ['order'], text)
     if answer.returncode or end is None:
         return VERDICTS.get(answer.returncode, 'status %d' % answer.returncode), answer.stderr.splitlines()
-    ends = zip_longest(end.splitlines(), end_of(ask('run', answer.stdout).stdout), fillvalue='')
+    ends = zip_longest(end.splitlines(), end_of(ask(['run'], answer.stdout).stdout), fillvalue='')
     differences = ["the store has '%s', and the order ends with '%s'" % pair for pair in ends if pair[0] != pair[1]]
     return 'another end' if differences else 'explained', differences
 

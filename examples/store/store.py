@@ -1,12 +1,13 @@
 #!/usr/bin/env python3
 """A small store of two nodes that moves its database from A to B by Zephyr while transactions run, and writes down what it does.
 
-    python3 store.py SCENARIO FOLDER [--fault FAULT] [--seed N] [--crash SECONDS]
+    python3 store.py SCENARIO FOLDER [--json] [--fault FAULT] [--seed N] [--crash SECONDS]
 
 SCENARIO is a scenario of version 1 without choices, as `zy_bench dis` prints it; its programs are the transactions. The folder gets client.log, a.log and
-b.log: what each of the three processes did, in its own order and in the words of a listing. docs/your-store.md says what such logs claim. In `end` is what
-the store has at the end, in the words of a listing's final state, but for the numbers of the commits. With a fault (faults.py) the last line of standard
-output is how often the store did what it would not have done without. SECONDS after both nodes are up all processes are killed, and there is no end.
+b.log: what each of the three processes did, in its own order and in the words of a listing, or with --json as objects. docs/your-store.md says what such logs
+claim. In `end` is what the store has at the end, in the words of a listing's final state, but for the numbers of the commits. With a fault (faults.py) the
+last line of standard output is how often the store did what it would not have done without. SECONDS after both nodes are up all processes are killed, and
+there is no end.
 
 There are three processes: node A, node B and the client. Each has a thread for each thing that can wait: a node for each session of the client, for each
 direction of the link, and, if it is the source, for the end of the migration; the client for each transaction and for the migration. Nobody decides
@@ -23,6 +24,7 @@ import time
 
 from client import Client
 from faults import FAULTS
+from lines import form_of
 from node import Node
 from scenario import Scenario, Unfit
 
@@ -54,7 +56,7 @@ def started(options, scenario):
 
     def serve(name):
         log = os.path.join(options.folder, name.lower() + '.log')
-        Node(name, scenario, links[name], options.fault, log, options.seed).serve(listeners[name])
+        Node(name, scenario, links[name], options.fault, log, form_of(options.json), options.seed).serve(listeners[name])
 
     nodes = [fork.Process(target=serve, args=(name,), daemon=True) for name in 'AB']
     for node in nodes:
@@ -66,6 +68,7 @@ def arguments():
     parser = argparse.ArgumentParser(description=__doc__, formatter_class=argparse.RawDescriptionHelpFormatter, usage=argparse.SUPPRESS)
     parser.add_argument('scenario', metavar='SCENARIO')
     parser.add_argument('folder', metavar='FOLDER')
+    parser.add_argument('--json', action='store_true')
     parser.add_argument('--fault', choices=FAULTS)
     parser.add_argument('--seed', default='0')
     parser.add_argument('--crash', metavar='SECONDS', type=float)
@@ -80,7 +83,7 @@ def main():
     except (OSError, Unfit) as fault:
         return 'store: %s' % fault
     nodes, ports = started(options, scenario)
-    client = Client(scenario, ports, os.path.join(options.folder, 'client.log'), options.seed)
+    client = Client(scenario, ports, os.path.join(options.folder, 'client.log'), form_of(options.json), options.seed)
     if options.crash:
         threading.Thread(target=crash, args=(options.crash, nodes), daemon=True).start()
     states = client.run()
