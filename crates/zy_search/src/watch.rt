@@ -2,6 +2,6 @@
 
 /// Learns now and then how far a search is. The answer does not depend on it.
 pub trait Watch {
-    /// This number of states was reached, and each schedule of at most this number of choices was looked at.
+    /// This number of states was reached, and the search goes on from one that this number of choices leads to.
     fn look(&mut self, states: usize, depth: usize);
 }
