@@ -40,7 +40,7 @@ use explained::{explain, explain_again};
 use given::{Failure, Given};
 use hint::Hint;
 use nothing::Nothing;
-use ordering::order;
+use ordering::{Asker, order};
 use origin::Origin;
 use output::{PipeSink, flush};
 use std::io::{BufWriter, IsTerminal, Read, Write};
@@ -321,7 +321,10 @@ fn carry_out<R: Print + Eprint + Input + Files + AllocGlobal + Clock + Threads +
                 &mut output,
             )
         }
-        Task::Order(quest) => order(rt, quest, file, &mut given, &mut input, &mut output),
+        Task::Order(quest) => {
+            let asker = Asker { file, is_terminal };
+            order(rt, quest, asker, &mut given, &mut input, &mut output)
+        }
     };
     match outcome {
         Ok(status) => status,

@@ -6,11 +6,13 @@ use crate::exit_status::{DONE, NOWHERE, SPENT};
 use crate::furthest::{Furthest, Steps};
 use crate::keeping::Keeper;
 use crate::output::{PipeSink, flush};
+use crate::progress::Progress;
 use crate::refused_line::RefusedLine;
 use crate::refused_object::{RefusedObject, ToldLine};
 use crate::summary::Count;
 use std::io::{Read, Write};
 use std::rt::Files;
+use std::time::Clock;
 use zy_engine::BenchFault;
 use zy_io::CountingReader;
 use zy_logs::LogLineFault;
@@ -18,19 +20,40 @@ use zy_order::{OrderAnswer, OrderReport};
 use zy_ordering::ordering::order_bytes;
 use zy_ordering::{LogFormat, OrderFault};
 
-/// Looks for an order of the logs that are given below a scenario, and gives the exit status.
-pub fn order<R: Eprint + Files + AllocGlobal, G: Read, W: Write>(
+/// Who asks for an order.
+#[derive(Clone, Copy)]
+pub struct Asker<'a> {
+    /// The file that has the input, if it is not standard input.
+    pub file: Option<&'a str>,
+    /// Whether standard error is a terminal.
+    pub is_terminal: bool,
+}
+
+/// Looks for an order of the logs that are given below a scenario, and gives the exit status. It says how far it is where standard
+/// error is a terminal.
+pub fn order<R: Eprint + Files + AllocGlobal + Clock, G: Read, W: Write>(
     rt: &R,
     quest: LogQuest<'_>,
-    file: Option<&str>,
+    asker: Asker<'_>,
     given: &mut G,
     input: &mut Vec<u8>,
     output: &mut PipeSink<W>,
 ) -> Result<u8, BenchFault>
     requires { output.old.1 < u64.MAX }
 {
+    let file = asker.file;
+    let mut progress = Progress::new(rt, asker.is_terminal);
     let source = &mut CountingReader::new(given);
-    match order_bytes(rt.alloc(), quest.options, source, output, input) {
+    let ordered = order_bytes(
+        rt.alloc(),
+        quest.options,
+        source,
+        output,
+        input,
+        &mut progress,
+    );
+    progress.clear();
+    match ordered {
         Ok(report) => {
             flush(output)?;
             let status = sum_up(rt, quest, file, input.as_slice(), &report)?;

@@ -19,3 +19,4 @@ mod walk;
 pub use crate::answer::{OrderAnswer, OrderReport, Taken};
 pub use crate::gaps::Gaps;
 pub use zy_logs::LogLine;
+pub use zy_search::Watch;

@@ -20,6 +20,7 @@ use zy_logs::LogLine;
 use zy_machine::{Fault, Machine};
 use zy_search::choices::considered;
 use zy_search::kinds::ChoiceKinds;
+use zy_search::watch::Watch;
 
 /// The place of a path that leads as far as any.
 fn furthest(reached: &Reached) -> u32
@@ -100,13 +101,13 @@ fn report_by(plan: &Plan, reached: &Reached, followed: Followed) -> Result<Order
 }
 
 /// The answer to a plan, with its numbers.
-fn report(plan: &Plan) -> Result<OrderReport, Fault>
+fn report<W: Watch>(plan: &Plan, watch: &mut W) -> Result<OrderReport, Fault>
     requires { IsPlan plan.now }
     ensures { IfOk result (λ r. AnswersFor plan.now r.answer) }
 {
     let first = digest_of(Cursors::at_start(), &plan.start);
     let mut reached = Reached::new(plan.alloc, first)?;
-    let followed = follow_all(plan, &mut reached)?;
+    let followed = follow_all(plan, &mut reached, watch)?;
     report_by(plan, &reached, followed)
 }
 
@@ -161,17 +162,18 @@ fn plan_from(
 /// Looks for an order of the lines of three logs, one for each actor, and of steps that are missing from the logs, in which
 /// each line agrees with what comes of its choice, where the choices are made from a machine's state. The logs are mixed in
 /// any way: only the order of each actor's own lines counts. The gaps say how many steps may be missing, and where. The
-/// search goes depth first, and gives up where it would reach more states than `most`.
-pub fn order(
+/// search goes depth first, and gives up where it would reach more states than `most`. The watch learns how far it is.
+pub fn order<W: Watch>(
     alloc: Global,
     start: &Machine,
     lines: &[LogLine],
     gaps: Gaps,
     most: u32,
+    watch: &mut W,
 ) -> Result<OrderReport, Fault>
     requires { IsInput start.now lines.now gaps }
     ensures { IfOk result (λ r. IsAnswer start.now lines.now gaps r.answer) }
 {
     let plan = plan_from(alloc, start, lines, gaps, most)?;
-    report(&plan)
+    report(&plan, watch)
 }

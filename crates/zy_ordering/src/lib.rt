@@ -14,3 +14,4 @@ pub mod ordering;
 pub use crate::faults::{BelowFault, OrderFault};
 pub use crate::log_format::LogFormat;
 pub use crate::options::OrderOptions;
+pub use zy_order::Watch;

@@ -19,7 +19,7 @@ use zy_isa::Scenario;
 use zy_logs::NumberedLine;
 use zy_machine::Machine;
 use zy_order::order::order;
-use zy_order::{OrderAnswer, OrderReport};
+use zy_order::{OrderAnswer, OrderReport, Watch};
 use zy_text::cut::cut_len;
 
 /// Writes what goes out of an answer: of a machine that has made all choices of its scenario, whose text is at hand.
@@ -45,13 +45,14 @@ fn write_answer<K: Sink>(
 
 /// Makes the choices of a scenario, looks for an order of the lines of logs behind them, and writes what goes out of the answer.
 /// The scenario's own text is at hand.
-fn write_order<K: Sink>(
+fn write_order<K: Sink, W: Watch>(
     alloc: Global,
     options: OrderOptions,
     text: &[u8],
     scenario: Scenario,
     lines: &[NumberedLine],
     sink: &mut K,
+    watch: &mut W,
 ) -> Result<OrderReport, TextFault>
     requires input { CanFollow (history_of None scenario) options.gap lines.now }
     requires calls { K.failures sink.old < u64.MAX }
@@ -61,17 +62,18 @@ fn write_order<K: Sink>(
     let steps = steps(alloc, lines)?;
     let gaps = gaps(alloc, options.gap, lines)?;
     let machine = Machine::run_all(alloc, scenario)?;
-    let report = order(alloc, &machine, &steps, gaps, options.most)?;
+    let report = order(alloc, &machine, &steps, gaps, options.most, watch)?;
     write_answer(alloc, options.wording, text, &machine, &report.answer, sink)?;
     Ok(report)
 }
 
 /// Answers of an input: a scenario text through its end line, and below it lines of logs.
-fn answer<K: Sink>(
+fn answer<K: Sink, W: Watch>(
     alloc: Global,
     options: OrderOptions,
     input: &[u8],
     sink: &mut K,
+    watch: &mut W,
 ) -> Result<OrderReport, OrderFault>
     requires few { length input.now ≤ max_input }
     requires calls { K.failures sink.old < u64.MAX }
@@ -81,20 +83,21 @@ fn answer<K: Sink>(
     let (text, below) = input.split_at(cut_len(input));
     let scenario = accept(alloc, Format::Text, text)?;
     let lines = read_below(alloc, options.logs, options.gap, &scenario, text, below)?;
-    let report = write_order(alloc, options, text, scenario, &lines, sink)?;
+    let report = write_order(alloc, options, text, scenario, &lines, sink, watch)?;
     Ok(report)
 }
 
 /// Reads an input whole: a scenario text through its first line whose only word is `end`, and below it lines of three logs,
 /// mixed in any way. The scenario's own choices are steps already taken. Looks for an order of the logs behind them, and
 /// where there is one, the scenario goes out with its choices and those of the order behind them; else nothing does.
-/// The bytes that were read are left in `input`.
-pub fn order_bytes<S: Source, K: Sink>(
+/// The watch learns how far the search is. The bytes that were read are left in `input`.
+pub fn order_bytes<S: Source, K: Sink, W: Watch>(
     alloc: Global,
     options: OrderOptions,
     source: &mut S,
     sink: &mut K,
     input: &mut Vec<u8>,
+    watch: &mut W,
 ) -> Result<OrderReport, OrderFault>
     requires { (S.failures source.old < u64.MAX) × (K.failures sink.old < u64.MAX) }
     ensures { let at = streams S.left S.failures S.given K.written K.failures in
@@ -102,5 +105,5 @@ pub fn order_bytes<S: Source, K: Sink>(
 {
     let bytes = read_all(alloc, source)?;
     *input = bytes;
-    answer(alloc, options, input.as_slice(), sink)
+    answer(alloc, options, input.as_slice(), sink, watch)
 }

@@ -14,7 +14,7 @@ use zy_image::save::save;
 use zy_io::{SliceSource, VecSink};
 use zy_listing::run::write_run;
 use zy_ordering::ordering::order_bytes;
-use zy_ordering::{LogFormat, OrderOptions};
+use zy_ordering::{LogFormat, OrderOptions, Watch};
 
 /// An engine, and what it reads.
 #[derive(Clone, Copy)]
@@ -44,6 +44,14 @@ const OPTIONS_OF_OBJECTS: OrderOptions = OrderOptions {
     logs: LogFormat::Json,
     ..OPTIONS
 };
+
+/// Looks on at nothing.
+#[derive(Drop)]
+struct Unwatched;
+
+impl Watch for Unwatched {
+    fn look(&mut self, _states: usize, _depth: usize) {}
+}
 
 /// Lets an engine work.
 fn work(
@@ -76,13 +84,21 @@ fn work(
         Engine::Dis => tested(dis_bytes(alloc, source, sink, &mut input)),
         Engine::Check => tested(ended(check_bytes(alloc, source, sink))),
         Engine::Debug => tested(debug_bytes(alloc, 2, 1, source, sink, &mut input)),
-        Engine::Order => tested(ended(order_bytes(alloc, OPTIONS, source, sink, &mut input))),
+        Engine::Order => tested(ended(order_bytes(
+            alloc,
+            OPTIONS,
+            source,
+            sink,
+            &mut input,
+            &mut Unwatched,
+        ))),
         Engine::OrderObjects => tested(ended(order_bytes(
             alloc,
             OPTIONS_OF_OBJECTS,
             source,
             sink,
             &mut input,
+            &mut Unwatched,
         ))),
     }
 }
