@@ -1,6 +1,7 @@
 """What `zy_bench search` is asked, and of what, and what it says of its answer on standard error."""
 
 import os
+import pty
 import subprocess
 
 from case import EXAMPLES, PROGRAM, TOP, content
@@ -21,6 +22,9 @@ STATUS = {'found': 0, 'none': 4, 'spent': 6}
 
 # What precedes the report where a goal names a transaction, and where it names a page, that the scenario does not have.
 WARNING = 'zy_bench: the goal names %s %d, and the scenario has only those below %d\n'
+
+# What a terminal gets while a search goes on: lines that are written over, the last of which is taken away.
+PROGRESS = r'(\r\d+ states, \d+ choices deep, \d+ states a second\x1b\[K)+\r\x1b\[K'
 
 # How the line begins that names the order of a run whose rows are not those of the commit order (tests/orders has which order it is).
 EXPLAINED = 'zy_bench: the rows are those of '
@@ -52,6 +56,23 @@ def report(verdict, states, length, words, always=False):
 def bench(words, given):
     done = subprocess.run([PROGRAM] + words, input=given, stdout=subprocess.PIPE, stderr=subprocess.PIPE, timeout=300)
     return done.returncode, done.stdout, done.stderr.decode()
+
+
+def shown_on_a_terminal(words, given):
+    """What goes to standard error where that is a terminal."""
+    master, slave = pty.openpty()
+    with subprocess.Popen([PROGRAM] + words, stdin=subprocess.PIPE, stdout=subprocess.DEVNULL, stderr=slave) as search:
+        os.close(slave)
+        search.stdin.write(given)
+        search.stdin.close()
+        shown = b''
+        try:
+            while piece := os.read(master, 4096):
+                shown += piece
+        except OSError:
+            pass  # the other end is closed
+    os.close(master)
+    return shown.decode()
 
 
 def without_choices(text):
