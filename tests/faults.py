@@ -321,6 +321,8 @@ SCRIPT_FAULTS = [
     script('build: how long it takes is not said', 'tools/build.py', "    say('by docs/gate.md", "    str('by docs/gate.md", 'build'),
     script('build: the minutes on several processors are those on one', 'tools/build.py', 'total * 5 / 6 / self.room', 'total * 5 / 6', 'build'),
     script('build: all of it goes side by side', 'tools/build.py', 'total / 6 + total * 5 / 6 / self.room', 'total / self.room', 'build'),
+    script('build: nothing is said of the other commands', 'tools/build.py', "if PROGRAM != 'zy_bench':", 'if False:', 'build'),
+    script('build: all crates count as those of the other commands', 'tools/build.py', "needs('zy_bench').keys() - build.done", "needs('zy_bench').keys()", 'build'),
     script('build: the toolchain is not noted', 'zy_bench', '  rt version > "$program.toolchain"\n', '', 'build'),
     # releases
     script('release: with the times of the files', 'tools/packing/archive.py', 'entry.mode, entry.size = files[name][0], len(files[name][1])',

@@ -3,7 +3,8 @@
     build.py [zy_bench | zy_first]
 
 The program is zy_bench, if none is named; zy_first uses fewer crates. What is proved and how long it takes is said first. A line on standard error for
-each crate as it is proved: its time, how many are left, and how long they take by estimate. What rt writes goes to crates/build.log."""
+each crate as it is proved: its time, how many are left, and how long they take by estimate. Behind zy_first comes how the other commands are had. What
+rt writes goes to crates/build.log."""
 
 import math
 import os
@@ -36,10 +37,10 @@ def listed():
         return {re.match(r'\w+', line)[0]: line for line in file if line.strip() and not line.startswith('#')}
 
 
-def needs():
-    """The crates that each crate uses, of those that the program needs."""
+def needs(program):
+    """The crates that each crate uses, of those that a program needs."""
     all_of = {name: set(line.partition(':')[2].split()) for name, line in listed().items()}
-    found, todo = {}, [PROGRAM]
+    found, todo = {}, [program]
     while todo:
         name = todo.pop()
         if name not in found:
@@ -137,7 +138,7 @@ class Build:
     """Which crates are proved, and which are under way."""
 
     def __init__(self):
-        self.needs, self.minutes = needs(), minutes()
+        self.needs, self.minutes = needs(PROGRAM), minutes()
         self.behind = {}
         for name in self.needs:
             self.weigh(name)
@@ -223,6 +224,8 @@ def main():
             time.sleep(0.5)
     finally:
         build.stop()
+    if PROGRAM != 'zy_bench':
+        say('the other commands need %d crates more: ./zy_bench --build & proves them in the background' % len(needs('zy_bench').keys() - build.done))
     return 0
 
 
