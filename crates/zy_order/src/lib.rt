@@ -4,9 +4,11 @@
 pub mod answer;
 mod attempt;
 mod cursors;
+mod did;
 mod expand;
 mod follow;
 pub mod gaps;
+mod line;
 mod logs;
 mod missing;
 mod note;
