@@ -247,6 +247,11 @@ leads_by h r new i x line came to e lt same agrees there known = record {
       (sym (e.paths.same i lt)) (subst (λ (f : Cursors). IsKnown h new f (state_by h r i line.choice)) there known));
 }
 
+-- a line that does not agree with what came of its choice does not agree with what comes of it
+pub unfit_by : (h : History) (r : Reached) (i : ℕ) (line : LogLine) (came : Entry) → came ≡ entry_by h r i line.choice → (Agrees line came → ⊥)
+    → Agrees line (entry_by h r i line.choice) → ⊥
+unfit_by h r i line came same unfit = λ agrees. unfit (subst (Agrees line) (sym same) agrees)
+
 -- a line that leads on still does
 leads_on : (h : History) (r new : Reached) (i : ℕ) (x : Actor) (line : LogLine) → Extends r new → i < length r.visited → LeadsOn h r i x line
     → LeadsOn h new i x line
