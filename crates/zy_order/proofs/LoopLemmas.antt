@@ -33,7 +33,7 @@ use Rattle.zy_order.specs.declared.gaps.Gaps.{Gaps}
 use Rattle.zy_order.specs.Gaps.{gaps_of, gap_count}
 use Rattle.zy_order.specs.Orders.{entry_at}
 use Rattle.zy_order.specs.Ways.{log_of, cursor_of, cursor, cursors_in, gap_at, advanced, with_missing, AreMatched, HasNext, HasGap}
-use Rattle.zy_order.specs.Reaches.{all_kinds, cursors_at, IsReached, Extends, IsMet, AreMet, IsTried, AreTried, IsNextDid, LeadsOn, FollowsAll, FollowsDid}
+use Rattle.zy_order.specs.Reaches.{all_kinds, cursors_at, IsReached, Extends, IsMet, AreMet, IsTried, AreTried, MayBeAlone, LeadsOn, FollowsAll, FollowsAlone}
 use Rattle.zy_order.specs.Reaches.{IsFollowed, AreFollowedBut, HasEachActor, IsMetBy}
 use Rattle.zy_order.specs.Reaches.{Adds, IsPlan, IsTaken, IsWayOf, IsKnown, entry_by, state_by}
 use Rattle.zy_order.proofs.WayLemmas.{same_line}
@@ -155,14 +155,14 @@ module _ (h : History) (l : Logs) (r : Reached) (i : ℕ) (x : Actor) (line : Lo
       let agrees = subst (λ (m : LogLine). Agrees m (entry_by h r i c)) (sym one) fits.agrees in
       absurd (unfit (subst (λ (d : Choice). Agrees line (entry_by h r i d)) (sym same) agrees))
 
--- a next line that tells of a run that did and leads on is followed alone
-pub did_leads : (h : History) (l : Logs) (r new : Reached) (i : ℕ) (x : Actor) (line : LogLine) (m : Met) → Extends r new → i < length r.visited
-    → IsNextDid x l (cursors_at r i) line → IsMetBy h new i x line m → m ≡ met.Known → FollowsDid h l new i
-did_leads h l r new i x line m e lt next came known = record {
-  actor = x;
+-- a next line that may be followed alone and leads on is
+pub alone_leads : (h : History) (l : Logs) (r new : Reached) (i : ℕ) (n : Node) (line : LogLine) (m : Met) → Extends r new → i < length r.visited
+    → MayBeAlone n l (cursors_at r i) line → IsMetBy h new i (actor_at n) line m → m ≡ met.Known → FollowsAlone h l new i
+alone_leads h l r new i n line m e lt may came known = record {
+  node = n;
   line = line;
-  next = subst (λ (g : Cursors). IsNextDid x l g line) (sym (e.cursors i lt)) next;
-  leads = subst (IsMetBy h new i x line) known came;
+  may = subst (λ (g : Cursors). MayBeAlone n l g line) (sym (e.cursors i lt)) may;
+  leads = subst (IsMetBy h new i (actor_at n) line) known came;
 }
 
 -- ---- missing steps
@@ -242,7 +242,7 @@ all_followed h l r new at lt e tried met = record { tried = λ c named. tried_on
 
 -- where steps of a path were followed, and it does not match all lines, it was followed
 pub is_followed : (h : History) (l : Logs) (r new : Reached) (at : ℕ) → at < length r.visited → Extends r new → (AreMatched l (cursors_at r at) → ⊥)
-    → FollowsAll h l new at ⊎ FollowsDid h l new at → IsFollowed h l new at
+    → FollowsAll h l new at ⊎ FollowsAlone h l new at → IsFollowed h l new at
 is_followed h l r new at lt e part steps = record { part = λ end. part (subst (AreMatched l) (e.cursors at lt) end); steps = steps }
 
 -- ---- results

@@ -25,11 +25,11 @@ use Rattle.zy_order.specs.declared.reached.Reached.{Reached}
 use Rattle.zy_order.specs.Orders.{entry_at}
 use Rattle.zy_order.specs.Ways.{log_of, cursor, cursor_of, gap_at, at_start, cursors_in, advanced, with_missing, of_nodes, line_count}
 use Rattle.zy_order.specs.Ways.{IsNoFurther, NeedNoMore, AreMatched, HasNext, HasGap, Leads, IsWay}
-use Rattle.zy_order.specs.Reaches.{cursors_at, entry_by, state_by, Extends, IsKnown, IsReached, IsMet, IsTried, FollowsAll, IsNextDid, LeadsOn, FollowsDid}
+use Rattle.zy_order.specs.Reaches.{cursors_at, entry_by, state_by, Extends, IsKnown, IsReached, IsMet, IsTried, FollowsAll, MayBeAlone, LeadsOn, FollowsAlone}
 use Rattle.zy_order.specs.Reaches.{IsFollowed, IsFurthestPath, IsWayOf, IsFurthestWay, IsPlan}
 use Rattle.zy_order.proofs.NeedLemmas.{need_self, need_on, need_missing, need_lines, way_less, matched_less, no_further_less, no_further_self, no_further_on}
 use Rattle.zy_order.proofs.WayLemmas.{along, log_few, within_start}
-use Rattle.zy_order.proofs.DidLemmas.{BeginsBy, begins_by}
+use Rattle.zy_order.proofs.AloneLemmas.{BeginsBy, begins_by}
 
 -- ---- each way is outdone
 
@@ -120,20 +120,14 @@ module _ (p : Plan) (r : Reached) (plan : IsPlan p) (is : IsReached p r) (all : 
       let here = play-keeps sc Tidy (step_tidy sc) (path_at r.visited i) h.state start in
       (ordered_from n (state_at i) here.ordered).mine.locks
 
-  -- where a run that did was followed alone, a way that begins by it leads as far
-  begins_at : (i : ℕ) (did : FollowsDid h l r i) (cs : List Choice) (to : Cursors) → IsWay h.scenario l (cursors_at r i) (state_at i) cs to
-      → BeginsBy h.scenario l did.next.tells.run.0 did.next.tells.run.1 (cursors_at r i) (state_at i) cs to did.actor
-  begins_at i did cs to way =
+  -- where a line was followed alone, a way that begins by it leads as far
+  begins_at : (i : ℕ) (one : FollowsAlone h l r i) (cs : List Choice) (to : Cursors) → IsWay h.scenario l (cursors_at r i) (state_at i) cs to
+      → BeginsBy h.scenario l one.line.choice (cursors_at r i) (state_at i) cs to (actor_at one.node)
+  begins_at i one cs to way =
       let g = cursors_at r i in
-      let x = did.actor in
-      let line = did.line in
-      let n = did.next.tells.run.0 in
-      let t = did.next.tells.run.1 in
-      let run = did.next.tells.run.2 in
-      let own : actor_at n ≡ x = ap actor_of (sym run) ∙ (plan.lines x (cursor x g) line did.next.next).0 in
-      let agrees : Agrees line (entry_at h.scenario (state_at i) (Run n t)) =
-      subst (λ (c : Choice). Agrees line (entry_at h.scenario (state_at i) c)) run did.leads.agrees in
-      begins_by h.scenario l n t g (state_at i) line x own (locks_at n i) run did.next.tells.did agrees did.next.next did.next.whole cs to way
+      let x = actor_at one.node in
+      let own = (plan.lines x (cursor x g) one.line one.may.next).0 in
+      begins_by h.scenario l one.node g (state_at i) one.line (locks_at one.node i) own one.may one.leads.agrees cs to way
 
   -- one choice or one line fewer is left behind a step
   ends_more : (most : ℕ) → Ends most → Ends (suc most)
@@ -144,12 +138,10 @@ module _ (p : Plan) (r : Reached) (plan : IsPlan p) (is : IsReached p r) (all : 
         | inl each ↦
             let lines = lines_lead (length h.scenario.programs) l g (entry_by h r i c) way.0 way.1 in
             from_known most ends way.0 (state_by h r i c) (all_lead h l r i c way.0 each way.1) cs to way.2 (omega (arith, few, lines))
-        | inr did ↦
-            let begins = begins_at i did (c ∷ cs) to way in
-            let x = did.actor in
-            let run = did.next.tells.run in
-            let known = subst (λ (d : Choice). IsKnown h r (advanced x g) (state_by h r i d)) run.2 did.leads.known in
-            let end = from_known most ends (advanced x g) (state_by h r i (Run run.0 run.1)) known begins.choices begins.end begins.way
+        | inr one ↦
+            let begins = begins_at i one (c ∷ cs) to way in
+            let x = actor_at one.node in
+            let end = from_known most ends (advanced x g) (state_by h r i one.line.choice) one.leads.known begins.choices begins.end begins.way
             (omega (arith, few, begins.few, lines_advanced x g)) in
             record {
               part = λ whole. end.part (begins.whole whole);
@@ -265,13 +257,13 @@ all_on h l r new i e lt is = record {
   met = λ x. met_on h l r new i x e lt (is.met x);
 }
 
--- so is a run that did
-did_on : (h : History) (l : Logs) (r new : Reached) (i : ℕ) → Extends r new → i < length r.visited → FollowsDid h l r i → FollowsDid h l new i
-did_on h l r new i e lt is = record {
-  actor = is.actor;
+-- where a line was followed alone it still is
+alone_on : (h : History) (l : Logs) (r new : Reached) (i : ℕ) → Extends r new → i < length r.visited → FollowsAlone h l r i → FollowsAlone h l new i
+alone_on h l r new i e lt is = record {
+  node = is.node;
   line = is.line;
-  next = subst (λ (g : Cursors). IsNextDid is.actor l g is.line) (sym (e.cursors i lt)) is.next;
-  leads = leads_on h r new i is.actor is.line e lt is.leads;
+  may = subst (λ (g : Cursors). MayBeAlone is.node l g is.line) (sym (e.cursors i lt)) is.may;
+  leads = leads_on h r new i (actor_at is.node) is.line e lt is.leads;
 }
 
 -- a path that was followed still is
@@ -280,7 +272,7 @@ followed_on h l r new i e lt is = record {
   part = λ end. is.part (subst (AreMatched l) (e.cursors i lt) end);
   steps = elim is.steps [
     | inl each ↦ inl (all_on h l r new i e lt each)
-    | inr did ↦ inr (did_on h l r new i e lt did)
+    | inr one ↦ inr (alone_on h l r new i e lt one)
   ];
 }
 

@@ -1,5 +1,5 @@
 -- What a search keeps, and what each of its parts adds.
-use Rattle.std.specs.Prelude.{ℕ, ◌≡◌, ◌≤◌, ◌<◌, ◌+◌, ◌^◌, ◌⊎◌, ◌++◌, List, [], ◌∷◌, Option, None, Some, true, length}
+use Rattle.std.specs.Prelude.{ℕ, ◌≡◌, ◌≤◌, ◌<◌, ◌+◌, ◌^◌, ◌⊎◌, ◌++◌, List, [], ◌∷◌, Option, None, Some, Bool, true, false, length}
 use Rattle.std.specs.Prelude.{Contains}
 use Rattle.std.specs.Prelude.{slice_get}
 use Rattle.zy_isa.specs.Limits.{max_choices}
@@ -7,12 +7,13 @@ use Rattle.zy_isa.specs.declared.node.Actor.{Actor}
 use Rattle.zy_isa.specs.declared.node.Node.{Node}
 use Rattle.zy_isa.specs.declared.choice.Choice.{Choice}
 use Rattle.zy_isa.specs.declared.choice.Choice.TheVariants.{Run}
-use Rattle.zy_isa.specs.Choices.{actor_of, names_below}
+use Rattle.zy_isa.specs.Choices.{actor_of, actor_at, names_below}
 use Rattle.zy_table.specs.declared.entry.Entry.{Entry}
 use Rattle.zy_table.specs.State.{State}
 use Rattle.zy_table.specs.Play.{step}
 use Rattle.zy_machine.specs.Histories.{History, IsReplay}
 use Rattle.zy_logs.specs.Agrees.{Agrees}
+use Rattle.zy_logs.specs.declared.told.Told.{Told}
 use Rattle.zy_logs.specs.declared.told.Told.TheVariants as told
 use Rattle.zy_logs.specs.declared.log_line.LogLine.{LogLine}
 use Rattle.zy_search.specs.declared.kinds.ChoiceKinds.{ChoiceKinds}
@@ -136,31 +137,55 @@ pub record FollowsAll (h : History) (logs : Logs) (r : Reached) (i : ℕ) : Type
 
 -- a line tells of a `run` that did
 pub record TellsDid (line : LogLine) : Type 0 where
-  pub run : (n : Node) × (t : ℕ) × (line.choice ≡ Run n t)
+  pub node : Node
+  pub txn : ℕ
+  pub run : line.choice ≡ Run node txn
   pub did : line.told ≡ Some told.Did
 
--- the next line of an actor tells of a `run` that did, and no step may be missing before it
-pub record IsNextDid (x : Actor) (logs : Logs) (cursors : Cursors) (line : LogLine) : Type 0 where
-  pub next : slice_get (log_of x logs) (cursor x cursors) ≡ Some line
-  pub tells : TellsDid line
-  pub whole : HasGap x logs cursors → ⊥
+-- what is told is an outcome of which nothing comes
+abbrev pub is_nothing : Told → Bool
+is_nothing told.BadMode = true
+is_nothing told.Idle = true
+is_nothing told.Elsewhere = true
+is_nothing told.NotYet = true
+is_nothing (told.Waits page) = true
+is_nothing (told.Awaits page) = true
+is_nothing told.NoMessage = true
+is_nothing (told.Held page) = true
+is_nothing told.Stray = true
+is_nothing (told.Active txn) = true
+is_nothing told.NoPush = true
+is_nothing t = false
+
+-- a line tells that nothing came of its choice
+pub record TellsNothing (line : LogLine) : Type 0 where
+  pub what : Told
+  pub told : line.told ≡ Some what
+  pub nothing : is_nothing what ≡ true
+
+-- the next line of a node may be followed alone: it tells of a `run` that did, or that nothing came, and no step may be missing
+-- before it
+pub record MayBeAlone (n : Node) (logs : Logs) (cursors : Cursors) (line : LogLine) : Type 0 where
+  pub next : slice_get (log_of (actor_at n) logs) (cursor (actor_at n) cursors) ≡ Some line
+  pub tells : TellsDid line ⊎ TellsNothing line
+  pub whole : HasGap (actor_at n) logs cursors → ⊥
 
 -- where the path at a place leads, a line of an actor agrees with what comes of its choice, and a path leads where that does
 pub record LeadsOn (h : History) (r : Reached) (i : ℕ) (x : Actor) (line : LogLine) : Type 0 where
   pub agrees : Agrees line (entry_by h r i line.choice)
   pub known : IsKnown h r (advanced x (cursors_at r i)) (state_by h r i line.choice)
 
--- where the path at a place leads, such a next line leads on
-pub record FollowsDid (h : History) (logs : Logs) (r : Reached) (i : ℕ) : Type 0 where
-  pub actor : Actor
+-- where the path at a place leads, a next line that may be followed alone leads on
+pub record FollowsAlone (h : History) (logs : Logs) (r : Reached) (i : ℕ) : Type 0 where
+  pub node : Node
   pub line : LogLine
-  pub next : IsNextDid actor logs (cursors_at r i) line
-  pub leads : LeadsOn h r i actor line
+  pub may : MayBeAlone node logs (cursors_at r i) line
+  pub leads : LeadsOn h r i (actor_at node) line
 
--- the path at a place was followed: it does not match all lines, and all steps were followed, or a `run` that did alone
+-- the path at a place was followed: it does not match all lines, and all steps were followed, or one line alone
 pub record IsFollowed (h : History) (logs : Logs) (r : Reached) (i : ℕ) : Type 0 where
   pub part : AreMatched logs (cursors_at r i) → ⊥
-  pub steps : FollowsAll h logs r i ⊎ FollowsDid h logs r i
+  pub steps : FollowsAll h logs r i ⊎ FollowsAlone h logs r i
 
 -- each path but those that are to do was followed
 abbrev pub AreFollowedBut : History → Logs → Reached → List ℕ → Type 0

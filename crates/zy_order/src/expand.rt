@@ -5,7 +5,7 @@ ghost use Rattle.zy_search.specs.Visits.{IsHere, IsShelf};
 ghost use Rattle.zy_order.specs.Ways.{AreMatched};
 ghost use Rattle.zy_order.specs.Reaches.{cursors_at, IsMet, AreMet, FollowsAll, IsFollowed, IsUnderWay, Adds};
 
-use crate::did::follow_did;
+use crate::alone::follow_alone;
 use crate::line::{Met, meet_line};
 use crate::missing::try_each;
 use crate::plan::Plan;
@@ -126,8 +126,7 @@ fn follow_each(
     meet_each(plan, reached, shelf, at, here, twin)
 }
 
-/// Follows the steps that go on from where the path at a place leads: a `run` that did alone, if there is one, and else all
-/// of them. It answers no where there is no room for what one of them leads to.
+/// Follows the steps that go on from where the path at a place leads: one line alone, if that may be, and else all of them. It answers no where there is no room for what one of them leads to.
 pub(crate) fn expand(
     plan: &Plan,
     reached: &mut Reached,
@@ -148,7 +147,7 @@ pub(crate) fn expand(
     ensures twin { OnOk result (twin.new.scenario ≡ plan.now.start.scenario) }
 {
     arrive(plan, reached, shelf, at, here)?;
-    match follow_did(plan, reached, shelf, at, here, twin)? {
+    match follow_alone(plan, reached, shelf, at, here, twin)? {
         Met::Known => Ok(true),
         Met::Spent => Ok(false),
         Met::Unfit => follow_each(plan, reached, shelf, at, here, twin),

@@ -1,4 +1,4 @@
--- A `run` that did may be made before the steps of others: what comes of a way that begins by it.
+-- A line that may be followed alone may be made before the steps of others: what comes of a way that begins by it.
 use Rattle.std.proofs.Common.{◌≡◌, ◌∙◌, ℕ, ◌+◌, ◌<◌, ◌≤◌, ◌⊎◌, inl, inr, List, [], ◌∷◌, ◌++◌, length, refl, sym, ap, subst, arith, drop, length-append, slice_get, Some, Option}
 use Rattle.std.specs.Prelude.{IfSome}
 use Rattle.std.proofs.lemmas.Option.{slice_get_within}
@@ -12,6 +12,7 @@ use Rattle.zy_isa.specs.Choices.{actor_of, actor_at}
 use Rattle.zy_isa.specs.Scenario.{Scenario}
 use Rattle.zy_model.specs.Order.{LocksRise}
 use Rattle.zy_table.specs.declared.entry.Entry.{Entry}
+use Rattle.zy_table.specs.declared.outcome.Outcome.{Outcome}
 use Rattle.zy_table.specs.declared.outcome.Outcome.TheVariants.{Did}
 use Rattle.zy_table.specs.State.{State, facing}
 use Rattle.zy_table.specs.Play.{play, step, entries}
@@ -29,6 +30,9 @@ use Rattle.zy_order.specs.Gaps.{gaps_of}
 use Rattle.zy_order.specs.Orders.{entry_at}
 use Rattle.zy_order.specs.Ways.{log_of, cursor_of, cursor, gap_at, passed, filled, advanced, with_missing, of_nodes}
 use Rattle.zy_order.specs.Ways.{IsNoFurther, AreMatched, HasNext, HasGap, MayBeMissing, Leads, IsWay}
+use Rattle.zy_search.specs.Stuck.{is_still}
+use Rattle.zy_search.proofs.StillSteps.{still_stays}
+use Rattle.zy_order.specs.Reaches.{is_nothing, TellsDid, TellsNothing, MayBeAlone}
 use Rattle.zy_order.proofs.NeedLemmas.{no_further_self}
 use Rattle.zy_order.proofs.WayLemmas.{same_line}
 
@@ -208,7 +212,7 @@ first_own sc l n g s (c ∷ cs) to way = elim (same_or_not (actor_of c) (actor_a
   ]
 ]
 
--- ---- a way that begins by the run
+-- ---- a way that begins by the line
 
 -- cursors are no further than with a line more of a node
 no_further_advanced : (n : Node) (g : Cursors) → IsNoFurther g (advanced (actor_at n) g)
@@ -221,41 +225,112 @@ matched_of C l g end = end.of_c
 matched_of A l g end = end.of_a
 matched_of B l g end = end.of_b
 
--- behind a run of t at n, with one line more of x, there is a way that has no more choices than some way without the run, and leads as far
-pub record BeginsBy (sc : Scenario) (l : Logs) (n : Node) (t : ℕ) (g : Cursors) (s : State) (cs : List Choice) (to : Cursors) (x : Actor) : Type 0 where
-  pub choices : List Choice
-  pub end : Cursors
-  pub few : length choices ≤ length cs
-  pub way : IsWay sc l (advanced x g) (step sc (Run n t) s).after choices end
-  pub further : IsNoFurther to end
-  pub whole : AreMatched l to → AreMatched l end
+-- Where a line of node n fits a state: its choice may be made before those of others, behind which it fits as well, and they do
+-- not see it.
+record ComesFirst (sc : Scenario) (n : Node) (s : State) (line : LogLine) : Type 0 where
+  pub after : (cs : List Choice) → AreOfOthers n cs → Agrees line (entry_at sc (play sc s cs) line.choice)
+      → play sc (step sc line.choice s).after cs ≡ (step sc line.choice (play sc s cs)).after
+  pub unseen : (cs : List Choice) → AreOfOthers n cs → entries sc (step sc line.choice s).after cs ≡ entries sc s cs
 
--- The next line of node n is a run of t that tells `did`, no step may be missing before it, and it fits.
-module _ (sc : Scenario) (l : Logs) (n : Node) (t : ℕ) (g : Cursors) (s : State) (line : LogLine) (locks : LocksRise (facing n s).me.locks)
-    (run : line.choice ≡ Run n t) (did : line.told ≡ Some told.Did) (agrees : Agrees line (entry_at sc s (Run n t)))
-    (next : slice_get (log_of (actor_at n) l) (cursor (actor_at n) g) ≡ Some line) (sure : HasGap (actor_at n) l g → ⊥) where
-  -- the node, as an actor
-  abbrev x : Actor
-  x = actor_at n
-
+-- a run that did comes first
+module _ (sc : Scenario) (n : Node) (t : ℕ) (s : State) (line : LogLine) (locks : LocksRise (facing n s).me.locks) (run : line.choice ≡ Run n t)
+    (did : line.told ≡ Some told.Did) (agrees : Agrees line (entry_at sc s line.choice)) where
   -- what agrees with the line did
   did_by : (e : Entry) → Agrees line e → e.outcome ≡ Did
   did_by e fits = subst (λ (o : Option Told). IfSome o (λ k. Tells k e.outcome)) did fits.0
 
   -- so the run does
   does : Does sc n t s
-  does = record { locks = locks; outcome = did_by (entry_at sc s (Run n t)) agrees }
+  does = record { locks = locks; outcome = did_by (entry_at sc s (Run n t)) (subst (λ (c : Choice). Agrees line (entry_at sc s c)) run agrees) }
 
-  -- where the cursor of the node is the same, a step of the node is the run, and did
+  did_after : (cs : List Choice) → AreOfOthers n cs → Agrees line (entry_at sc (play sc s cs) (Run n t))
+      → play sc (step sc (Run n t) s).after cs ≡ (step sc (Run n t) (play sc s cs)).after
+  did_after cs others fits =
+      (may_come_first sc n t s cs does others (did_by (entry_at sc (play sc s cs) (Run n t)) fits)).after ∙ play-push sc s cs (Run n t)
+
+  did_first : ComesFirst sc n s line
+  did_first = record {
+    after = λ cs others fits.
+        subst (λ (c : Choice). play sc (step sc c s).after cs ≡ (step sc c (play sc s cs)).after) (sym run)
+        (did_after cs others (subst (λ (c : Choice). Agrees line (entry_at sc (play sc s cs) c)) run fits));
+    unseen = λ cs others. subst (λ (c : Choice). entries sc (step sc c s).after cs ≡ entries sc s cs) (sym run) (unseen sc n t s cs does others);
+  }
+
+-- an outcome of which nothing comes is still
+nothing_still : (t : Told) (o : Outcome) → is_nothing t ≡ true → Tells t o → is_still o ≡ true
+nothing_still told.Started o e tells = cc e
+nothing_still told.BadMode o e tells = ap is_still tells
+nothing_still (told.Began x) o e tells = cc e
+nothing_still told.Idle o e tells = ap is_still tells
+nothing_still told.Elsewhere o e tells = ap is_still tells
+nothing_still told.NotYet o e tells = ap is_still tells
+nothing_still told.Did o e tells = cc e
+nothing_still (told.Split x y z) o e tells = cc e
+nothing_still (told.Aborted x) o e tells = cc e
+nothing_still (told.Committed x) o e tells = cc e
+nothing_still (told.Waits x) o e tells = ap is_still tells.1
+nothing_still (told.Pulls x) o e tells = cc e
+nothing_still (told.Awaits x) o e tells = ap is_still tells.1
+nothing_still told.NoMessage o e tells = ap is_still tells
+nothing_still told.GotWire o e tells = cc e
+nothing_still told.GotReady o e tells = cc e
+nothing_still told.GotDual o e tells = cc e
+nothing_still (told.Stale x) o e tells = cc e
+nothing_still (told.Held x) o e tells = ap is_still tells.1
+nothing_still (told.GotPull x) o e tells = cc e
+nothing_still (told.GotPage x) o e tells = cc e
+nothing_still told.GotFinish o e tells = cc e
+nothing_still told.GotDone o e tells = cc e
+nothing_still told.Stray o e tells = ap is_still tells
+nothing_still told.Finishing o e tells = cc e
+nothing_still (told.Active x) o e tells = ap is_still tells.1
+nothing_still (told.Pushed x) o e tells = cc e
+nothing_still told.NoPush o e tells = ap is_still tells
+
+-- a step of which nothing comes comes first
+module _ (sc : Scenario) (n : Node) (s : State) (line : LogLine) (tells : TellsNothing line) (agrees : Agrees line (entry_at sc s line.choice)) where
+  -- it changes nothing, wherever it fits
+  stays : (r : State) → Agrees line (entry_at sc r line.choice) → (step sc line.choice r).after ≡ r
+  stays r fits =
+      still_stays sc line.choice r (nothing_still tells.what (step sc line.choice r).outcome tells.nothing
+      (subst (λ (o : Option Told). IfSome o (λ k. Tells k (step sc line.choice r).outcome)) tells.told fits.0))
+
+  nothing_first : ComesFirst sc n s line
+  nothing_first = record {
+    after = λ cs others fits. ap (λ (r : State). play sc r cs) (stays s agrees) ∙ sym (stays (play sc s cs) fits);
+    unseen = λ cs others. ap (λ (r : State). entries sc r cs) (stays s agrees);
+  }
+
+-- behind the step of a line, with that line more of x, there is a way that has no more choices than some way without it, and leads as far
+pub record BeginsBy (sc : Scenario) (l : Logs) (c : Choice) (g : Cursors) (s : State) (cs : List Choice) (to : Cursors) (x : Actor) : Type 0 where
+  pub choices : List Choice
+  pub end : Cursors
+  pub few : length choices ≤ length cs
+  pub way : IsWay sc l (advanced x g) (step sc c s).after choices end
+  pub further : IsNoFurther to end
+  pub whole : AreMatched l to → AreMatched l end
+
+-- The line is the next one of node n, no step may be missing before it, and it comes first.
+module _ (sc : Scenario) (l : Logs) (n : Node) (g : Cursors) (s : State) (line : LogLine) (comes : ComesFirst sc n s line)
+    (next : slice_get (log_of (actor_at n) l) (cursor (actor_at n) g) ≡ Some line) (sure : HasGap (actor_at n) l g → ⊥) where
+  -- the node, as an actor
+  abbrev x : Actor
+  x = actor_at n
+
+  -- the state after its step
+  abbrev then : State
+  then = (step sc line.choice s).after
+
+  -- where the cursor of the node is the same, a step of the node is that of the line, which agrees with it
   own_is : (k : Cursors) (e : Entry) (to : Cursors) → cursor_of x k ≡ cursor_of x g → actor_of e.choice ≡ x → Leads (length sc.programs) l k e to
-      → (e.choice ≡ Run n t) × (e.outcome ≡ Did) × (to ≡ advanced x k)
+      → (e.choice ≡ line.choice) × Agrees line e × (to ≡ advanced x k)
   own_is k e to same own leads = elim leads [
     | inl by ↦
         let here : slice_get (log_of x l) (cursor x k) ≡ Some line =
         subst (λ (p : Cursor). slice_get (log_of x l) p.lines ≡ Some line) (sym same) next in
         let one = same_line l k e x line own here by.0 in (
-          sym by.0.choice ∙ (ap (λ (m : LogLine). m.choice) (sym one) ∙ run),
-          did_by e (subst (λ (m : LogLine). Agrees m e) (sym one) by.0.agrees),
+          sym by.0.choice ∙ ap (λ (m : LogLine). m.choice) (sym one),
+          subst (λ (m : LogLine). Agrees m e) (sym one) by.0.agrees,
           by.1 ∙ ap (λ (y : Actor). advanced y k) own,
         )
     | inr by ↦
@@ -263,54 +338,64 @@ module _ (sc : Scenario) (l : Logs) (n : Node) (t : ℕ) (g : Cursors) (s : Stat
         absurd (sure (subst (λ (p : Cursor). p.missing < gap_at (gaps_of x l.gaps) p) same gap))
   ]
 
-  -- a way that has a choice of the node has the run first of these: it may come before all others
-  begins_own : (cs : List Choice) (to : Cursors) → HasOwn sc l n g s cs to → BeginsBy sc l n t g s cs to x
+  -- a way that has a choice of the node has that of the line first of these: it may come before all others
+  begins_own : (cs : List Choice) (to : Cursors) → HasOwn sc l n g s cs to → BeginsBy sc l line.choice g s cs to x
   begins_own cs to h =
       let there = play sc s h.before in
-      let after = (step sc (Run n t) s).after in
       let is = own_is h.there (entry_at sc there h.own) h.next (way_stays sc l n g s h.before h.there h.others h.way) h.is h.leads in
-      let came : (step sc (Run n t) there).outcome ≡ Did = subst (λ (c : Choice). (step sc c there).outcome ≡ Did) is.0 is.1 in
-      let first = may_come_first sc n t s h.before does h.others came in
-      let same : (step sc h.own there).after ≡ play sc after h.before =
-      ap (λ (c : Choice). (step sc c there).after) is.0 ∙ (sym (play-push sc s h.before (Run n t)) ∙ sym first.after) in
-      let rest : IsWay sc l (advanced x h.there) (play sc after h.before) h.rest to =
-      subst (λ (f : Cursors). IsWay sc l f (play sc after h.before) h.rest to) is.2
+      let fits : Agrees line (entry_at sc there line.choice) = subst (λ (c : Choice). Agrees line (entry_at sc there c)) is.0 is.1 in
+      let same : (step sc h.own there).after ≡ play sc then h.before =
+      ap (λ (c : Choice). (step sc c there).after) is.0 ∙ sym (comes.after h.before h.others fits) in
+      let rest : IsWay sc l (advanced x h.there) (play sc then h.before) h.rest to =
+      subst (λ (f : Cursors). IsWay sc l f (play sc then h.before) h.rest to) is.2
       (subst (λ (r : State). IsWay sc l h.next r h.rest to) same h.goes_on) in
       record {
         choices = h.before ++ h.rest;
         end = to;
         few = omega (arith, h.many, length-append h.before h.rest);
-        way = way_append sc l (advanced x g) after h.before h.rest (advanced x h.there) to
-            (way_beside sc l n g s after h.before h.there h.others first.others h.way) rest;
+        way = way_append sc l (advanced x g) then h.before h.rest (advanced x h.there) to
+            (way_beside sc l n g s then h.before h.there h.others (comes.unseen h.before h.others) h.way) rest;
         further = no_further_self to;
         whole = λ end. end;
       }
 
-  -- a way that has none goes on behind the run, which adds a line
-  begins_more : (cs : List Choice) (to : Cursors) → AreOfOthers n cs → IsWay sc l g s cs to → BeginsBy sc l n t g s cs to x
+  -- a way that has none goes on behind the line, which is one more
+  begins_more : (cs : List Choice) (to : Cursors) → AreOfOthers n cs → IsWay sc l g s cs to → BeginsBy sc l line.choice g s cs to x
   begins_more cs to others way =
-      let stays = ap (λ (p : Cursor). p.lines) (way_stays sc l n g s cs to others way) in
+      let lines = ap (λ (p : Cursor). p.lines) (way_stays sc l n g s cs to others way) in
       record {
         choices = cs;
         end = advanced x to;
         few = omega arith;
-        way = way_beside sc l n g s (step sc (Run n t) s).after cs to others (unseen sc n t s cs does others) way;
+        way = way_beside sc l n g s then cs to others (comes.unseen cs others) way;
         further = no_further_advanced n to;
-        whole = λ end. absurd (omega (arith, matched_of x l to end, stays, slice_get_within (log_of x l) (cursor x g) line next));
+        whole = λ end. absurd (omega (arith, matched_of x l to end, lines, slice_get_within (log_of x l) (cursor x g) line next));
       }
 
   -- so there is one for each way
-  begins : (cs : List Choice) (to : Cursors) → IsWay sc l g s cs to → BeginsBy sc l n t g s cs to x
+  begins : (cs : List Choice) (to : Cursors) → IsWay sc l g s cs to → BeginsBy sc l line.choice g s cs to x
   begins cs to way = elim (first_own sc l n g s cs to way) [
     | inl others ↦ begins_more cs to others way
     | inr own ↦ begins_own cs to own
   ]
 
--- the same of an actor that is the node
-pub begins_by : (sc : Scenario) (l : Logs) (n : Node) (t : ℕ) (g : Cursors) (s : State) (line : LogLine) (x : Actor) → actor_at n ≡ x
-    → LocksRise (facing n s).me.locks → line.choice ≡ Run n t → line.told ≡ Some told.Did → Agrees line (entry_at sc s (Run n t))
-    → slice_get (log_of x l) (cursor x g) ≡ Some line → (HasGap x l g → ⊥) → (cs : List Choice) (to : Cursors) → IsWay sc l g s cs to
-    → BeginsBy sc l n t g s cs to x
-begins_by sc l n t g s line x own locks run did agrees =
-    subst (λ (y : Actor). slice_get (log_of y l) (cursor y g) ≡ Some line → (HasGap y l g → ⊥) → (cs : List Choice) (to : Cursors) → IsWay sc l g s cs to
-    → BeginsBy sc l n t g s cs to y) own (begins sc l n t g s line locks run did agrees)
+-- a line that may be followed alone is of its node, so a run that it tells of is
+own_run : (n m : Node) (t : ℕ) (line : LogLine) → actor_of line.choice ≡ actor_at n → line.choice ≡ Run m t → line.choice ≡ Run n t
+own_run node.A node.A t line own run = run
+own_run node.A node.B t line own run = cc (own, ap actor_of run)
+own_run node.B node.A t line own run = cc (own, ap actor_of run)
+own_run node.B node.B t line own run = run
+
+-- such a line comes first where it fits
+alone_first : (sc : Scenario) (n : Node) (s : State) (line : LogLine) → LocksRise (facing n s).me.locks → actor_of line.choice ≡ actor_at n
+    → TellsDid line ⊎ TellsNothing line → Agrees line (entry_at sc s line.choice) → ComesFirst sc n s line
+alone_first sc n s line locks own tells agrees = elim tells [
+  | inl did ↦ did_first sc n did.txn s line locks (own_run n did.node did.txn line own did.run) did.did agrees
+  | inr nothing ↦ nothing_first sc n s line nothing agrees
+]
+
+-- so each way has one that begins by it and leads as far
+pub begins_by : (sc : Scenario) (l : Logs) (n : Node) (g : Cursors) (s : State) (line : LogLine) → LocksRise (facing n s).me.locks
+    → actor_of line.choice ≡ actor_at n → MayBeAlone n l g line → Agrees line (entry_at sc s line.choice) → (cs : List Choice) (to : Cursors)
+    → IsWay sc l g s cs to → BeginsBy sc l line.choice g s cs to (actor_at n)
+begins_by sc l n g s line locks own may agrees = begins sc l n g s line (alone_first sc n s line locks own may.tells agrees) may.next may.whole

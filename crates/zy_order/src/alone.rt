@@ -1,16 +1,17 @@
-//! Runs that did, which are followed alone: one may be made before all steps of the client and of the other node.
-ghost use Rattle.std.specs.Prelude.{◌≡◌, ◌<◌, IfOk, IfSome, OnOk, length};
-ghost use Rattle.std.specs.Prelude.{true};
+//! Lines that are followed alone: where such a line of a node fits, it may come before all steps of the client and of the other node.
+ghost use Rattle.std.specs.Prelude.{◌≡◌, ◌<◌, IfOk, IfSome, OnOk, true, length};
+ghost use Rattle.zy_isa.specs.Choices.{actor_at};
 ghost use Rattle.zy_isa.specs.Limits.{max_choices};
 ghost use Rattle.zy_search.specs.Visits.{IsHere, IsShelf};
-ghost use Rattle.zy_order.specs.Reaches.{FollowsDid, IsNextDid, IsUnderWay, Adds, TellsDid};
+ghost use Rattle.zy_order.specs.Reaches as spec;
+ghost use Rattle.zy_order.specs.Reaches.{FollowsAlone, IsUnderWay, Adds, MayBeAlone, TellsDid, TellsNothing};
 
 use crate::cursors::Cursors;
 use crate::line::{Met, meet_line};
 use crate::logs::Logs;
 use crate::plan::Plan;
 use crate::reached::Reached;
-use zy_isa::{Actor, Choice};
+use zy_isa::{Actor, Choice, Node};
 use zy_logs::{LogLine, Told};
 use zy_machine::{Fault, Machine};
 use zy_search::shelf::Shelf;
@@ -22,29 +23,53 @@ fn tells_did(line: &LogLine) -> bool
     matches!(line.choice, Choice::Run(_, _)) && matches!(line.told, Some(Told::Did))
 }
 
-/// The next line of an actor, if it tells of a `run` that did and no step may be missing before it.
-fn next_did(logs: &Logs, cursors: Cursors, actor: Actor) -> Option<LogLine>
-    ensures { IfSome result (IsNextDid actor logs.now cursors) }
+/// Whether what is told is an outcome of which nothing comes.
+fn is_nothing(told: Told) -> bool
+    ensures { result ≡ spec.is_nothing told }
 {
+    match told {
+        Told::BadMode | Told::Idle | Told::Elsewhere | Told::NotYet => true,
+        Told::Waits(_) | Told::Awaits(_) => true,
+        Told::NoMessage | Told::Held(_) | Told::Stray => true,
+        Told::Active(_) | Told::NoPush => true,
+        _ => false,
+    }
+}
+
+/// Whether a line tells that nothing came of its choice.
+fn tells_nothing(line: &LogLine) -> bool
+    ensures { result ≡ true → TellsNothing line.now }
+{
+    match line.told {
+        Some(told) => is_nothing(told),
+        None => false,
+    }
+}
+
+/// The next line of a node, if it may be followed alone.
+fn next_alone(logs: &Logs, cursors: Cursors, node: Node) -> Option<LogLine>
+    ensures { IfSome result (MayBeAlone node logs.now cursors) }
+{
+    let actor = Actor::of(node);
     if logs.has_gap(cursors, actor) {
         return None;
     }
     let Some(line) = logs.next(cursors, actor) else {
         return None;
     };
-    if !tells_did(&line) {
+    if !tells_did(&line) && !tells_nothing(&line) {
         return None;
     }
     Some(line)
 }
 
-/// Follows the next line of an actor from where the path at a place leads, if it tells of such a run and fits.
+/// Follows the next line of a node from where the path at a place leads, if it may be followed alone and fits.
 fn follow_of(
     plan: &Plan,
     reached: &mut Reached,
     shelf: &mut Shelf,
     at: u32,
-    actor: Actor,
+    node: Node,
     here: &Machine,
     twin: &mut Machine,
 ) -> Result<Met, Fault>
@@ -55,17 +80,17 @@ fn follow_of(
     requires room { length here.now.entries < max_choices }
     requires twin { twin.old.scenario ≡ plan.now.start.scenario }
     ensures adds { OnOk result (Adds plan.now reached.old reached.new shelf.new) }
-    ensures did { IfOk result (λ met. met ≡ Met.Known → FollowsDid plan.now.start plan.now.logs reached.new at) }
+    ensures alone { IfOk result (λ met. met ≡ Met.Known → FollowsAlone plan.now.start plan.now.logs reached.new at) }
     ensures twin { OnOk result (twin.new.scenario ≡ plan.now.start.scenario) }
 {
-    let Some(line) = next_did(&plan.logs, reached.cursors_at(at), actor) else {
+    let Some(line) = next_alone(&plan.logs, reached.cursors_at(at), node) else {
         return Ok(Met::Unfit);
     };
-    meet_line(plan, reached, shelf, at, actor, &line, here, twin)
+    meet_line(plan, reached, shelf, at, Actor::of(node), &line, here, twin)
 }
 
-/// The same of A, and of B where the line of A is none.
-pub(crate) fn follow_did(
+/// Follows the next line of A from where the path at a place leads, if it may be followed alone and fits, or else that of B.
+pub(crate) fn follow_alone(
     plan: &Plan,
     reached: &mut Reached,
     shelf: &mut Shelf,
@@ -80,12 +105,12 @@ pub(crate) fn follow_did(
     requires room { length here.now.entries < max_choices }
     requires twin { twin.old.scenario ≡ plan.now.start.scenario }
     ensures adds { OnOk result (Adds plan.now reached.old reached.new shelf.new) }
-    ensures did { IfOk result (λ met. met ≡ Met.Known → FollowsDid plan.now.start plan.now.logs reached.new at) }
+    ensures alone { IfOk result (λ met. met ≡ Met.Known → FollowsAlone plan.now.start plan.now.logs reached.new at) }
     ensures twin { OnOk result (twin.new.scenario ≡ plan.now.start.scenario) }
 {
-    match follow_of(plan, reached, shelf, at, Actor::A, here, twin)? {
+    match follow_of(plan, reached, shelf, at, Node::A, here, twin)? {
         Met::Known => Ok(Met::Known),
         Met::Spent => Ok(Met::Spent),
-        Met::Unfit => follow_of(plan, reached, shelf, at, Actor::B, here, twin),
+        Met::Unfit => follow_of(plan, reached, shelf, at, Node::B, here, twin),
     }
 }

@@ -2,7 +2,7 @@
 use Rattle.std.proofs.lemmas.Result.{on_ok_weaker}
 use Rattle.zy_order.specs.Reaches.{Adds}
 use Rattle.zy_order.proofs.PushLemmas.{adds_on}
-use Rattle.zy_order.proofs.did.follow_did.Goals as goal
+use Rattle.zy_order.proofs.alone.follow_alone.Goals as goal
 
 pub returns-in-Unfit-clause-adds : goal.returns-in-Unfit-clause-adds
 returns-in-Unfit-clause-adds c =
