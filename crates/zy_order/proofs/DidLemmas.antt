@@ -27,8 +27,8 @@ use Rattle.zy_order.specs.declared.cursors.Cursor.{Cursor}
 use Rattle.zy_order.specs.declared.cursors.Cursors.{Cursors}
 use Rattle.zy_order.specs.Gaps.{gaps_of}
 use Rattle.zy_order.specs.Orders.{entry_at}
-use Rattle.zy_order.specs.Ways.{log_of, cursor_of, cursor, gap_at, passed, filled, advanced, with_missing, of_nodes}
-use Rattle.zy_order.specs.Ways.{IsNoFurther, AreMatched, HasNext, HasGap, MayBeMissing, Leads, IsWay}
+use Rattle.zy_order.specs.Ways.{log_of, cursor_of, cursor, gap_at, advanced, with_missing}
+use Rattle.zy_order.specs.Ways.{IsNoFurther, AreMatched, HasGap, Leads, IsWay}
 use Rattle.zy_order.proofs.NeedLemmas.{no_further_self}
 use Rattle.zy_order.proofs.WayLemmas.{same_line}
 

@@ -31,8 +31,7 @@ use Rattle.zy_order.specs.declared.line.Met.{Met}
 use Rattle.zy_order.specs.declared.line.Met.TheVariants as met
 use Rattle.zy_order.specs.declared.gaps.Gaps.{Gaps}
 use Rattle.zy_order.specs.Gaps.{gaps_of, gap_count}
-use Rattle.zy_order.specs.Orders.{entry_at}
-use Rattle.zy_order.specs.Ways.{log_of, cursor_of, cursor, cursors_in, gap_at, advanced, with_missing, AreMatched, HasNext, HasGap}
+use Rattle.zy_order.specs.Ways.{log_of, cursor_of, cursor, cursors_in, gap_at, advanced, with_missing, AreMatched, HasGap}
 use Rattle.zy_order.specs.Reaches.{all_kinds, cursors_at, IsReached, Extends, IsMet, AreMet, IsTried, AreTried, IsNextDid, LeadsOn, FollowsAll, FollowsDid}
 use Rattle.zy_order.specs.Reaches.{IsFollowed, AreFollowedBut, HasEachActor, IsMetBy}
 use Rattle.zy_order.specs.Reaches.{Adds, IsPlan, IsTaken, IsWayOf, IsKnown, entry_by, state_by}

@@ -1,5 +1,5 @@
 -- The line fits and where it leads is known, or it does not fit.
-use Rattle.std.proofs.Common.{◌≡◌, ◌∙◌, ◌<◌, Bool, true, false, length, sym, ap, subst, arith}
+use Rattle.std.proofs.Common.{◌∙◌, ◌<◌, sym, ap, subst}
 use Rattle.std.proofs.Math.Bool.{false≢true}
 use Rattle.std.proofs.lemmas.Option.{slice_get_within}
 use Rattle.zy_order.specs.declared.cursors.Cursors.{Cursors}
