@@ -1,5 +1,5 @@
 -- A line that may be followed alone may be made before the steps of others: what comes of a way that begins by it.
-use Rattle.std.proofs.Common.{◌≡◌, ◌∙◌, ℕ, ◌+◌, ◌<◌, ◌≤◌, ◌⊎◌, inl, inr, List, [], ◌∷◌, ◌++◌, length, refl, sym, ap, subst, arith, drop, length-append, slice_get, Some, Option}
+use Rattle.std.proofs.Common.{true, ◌≡◌, ◌∙◌, ℕ, ◌+◌, ◌<◌, ◌≤◌, ◌⊎◌, inl, inr, List, [], ◌∷◌, ◌++◌, length, refl, sym, ap, subst, arith, drop, length-append, slice_get, Some, Option}
 use Rattle.std.specs.Prelude.{IfSome}
 use Rattle.std.proofs.lemmas.Option.{slice_get_within}
 use Rattle.zy_isa.specs.declared.node.Node.{Node}
@@ -28,10 +28,10 @@ use Rattle.zy_order.specs.declared.cursors.Cursor.{Cursor}
 use Rattle.zy_order.specs.declared.cursors.Cursors.{Cursors}
 use Rattle.zy_order.specs.Gaps.{gaps_of}
 use Rattle.zy_order.specs.Orders.{entry_at}
-use Rattle.zy_order.specs.Ways.{log_of, cursor_of, cursor, gap_at, passed, filled, advanced, with_missing, of_nodes}
-use Rattle.zy_order.specs.Ways.{IsNoFurther, AreMatched, HasNext, HasGap, MayBeMissing, Leads, IsWay}
 use Rattle.zy_search.specs.Stuck.{is_still}
 use Rattle.zy_search.proofs.StillSteps.{still_stays}
+use Rattle.zy_order.specs.Ways.{log_of, cursor_of, cursor, gap_at, advanced, with_missing}
+use Rattle.zy_order.specs.Ways.{IsNoFurther, AreMatched, HasGap, Leads, IsWay}
 use Rattle.zy_order.specs.Reaches.{is_nothing, TellsDid, TellsNothing, MayBeAlone}
 use Rattle.zy_order.proofs.NeedLemmas.{no_further_self}
 use Rattle.zy_order.proofs.WayLemmas.{same_line}

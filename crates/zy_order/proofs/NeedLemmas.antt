@@ -1,5 +1,5 @@
 -- Cursors that need no more missing steps than others: what leads on from the others leads on from them.
-use Rattle.std.proofs.Common.{◌≡◌, ◌∙◌, ℕ, ◌+◌, ◌<◌, ◌≤◌, inl, inr, List, [], ◌∷◌, refl, sym, ap, subst, arith, length, slice_get, Some}
+use Rattle.std.proofs.Common.{◌≡◌, ◌∙◌, ℕ, ◌+◌, inl, inr, List, [], ◌∷◌, refl, sym, ap, subst, arith, length, slice_get}
 use Rattle.zy_isa.specs.declared.node.Actor.{Actor}
 use Rattle.zy_isa.specs.declared.node.Actor.TheVariants.{C, A, B}
 use Rattle.zy_isa.specs.declared.choice.Choice.{Choice}
@@ -8,13 +8,12 @@ use Rattle.zy_isa.specs.Scenario.{Scenario}
 use Rattle.zy_table.specs.declared.entry.Entry.{Entry}
 use Rattle.zy_table.specs.State.{State}
 use Rattle.zy_table.specs.Play.{step}
-use Rattle.zy_logs.specs.declared.log_line.LogLine.{LogLine}
 use Rattle.zy_order.specs.declared.logs.Logs.{Logs}
 use Rattle.zy_order.specs.declared.cursors.Cursor.{Cursor}
 use Rattle.zy_order.specs.declared.cursors.Cursors.{Cursors}
 use Rattle.zy_order.specs.Gaps.{gaps_of}
 use Rattle.zy_order.specs.Orders.{entry_at}
-use Rattle.zy_order.specs.Ways.{log_of, cursor_of, cursor, gap_at, passed, filled, advanced, with_missing, of_nodes}
+use Rattle.zy_order.specs.Ways.{log_of, cursor_of, gap_at, passed, filled, advanced, with_missing, of_nodes}
 use Rattle.zy_order.specs.Ways.{NeedsNoMore, NeedNoMore, IsNoFurther, AreMatched, HasNext, HasGap, Leads, IsWay}
 
 -- ---- cursors
@@ -27,11 +26,7 @@ needs_self p = record { lines = refl; missing = omega arith }
 needs_filled : (p : Cursor) → NeedsNoMore p (filled p)
 needs_filled p = record { lines = refl; missing = omega arith }
 
--- where it needs no more than another, and that no more than a third, it needs no more than the third
-needs_on : (p q r : Cursor) → NeedsNoMore p q → NeedsNoMore q r → NeedsNoMore p r
-needs_on p q r x y = record { lines = x.lines ∙ y.lines; missing = omega (arith, x.missing, y.missing) }
-
--- so it is behind the next line
+-- where it needs no more than another, it needs no more behind the next line
 needs_passed : (p q : Cursor) → NeedsNoMore p q → NeedsNoMore (passed p) (passed q)
 needs_passed p q x = record { lines = ap (λ n. n + 1) x.lines; missing = omega arith }
 
@@ -43,13 +38,6 @@ needs_both p q x = record { lines = x.lines; missing = omega (arith, x.missing) 
 
 pub need_self : (g : Cursors) → NeedNoMore g g
 need_self g = record { of_c = needs_self g.c; of_a = needs_self g.a; of_b = needs_self g.b }
-
-pub need_on : (f g k : Cursors) → NeedNoMore f g → NeedNoMore g k → NeedNoMore f k
-need_on f g k x y = record {
-  of_c = needs_on f.c g.c k.c x.of_c y.of_c;
-  of_a = needs_on f.a g.a k.a x.of_a y.of_a;
-  of_b = needs_on f.b g.b k.b x.of_b y.of_b;
-}
 
 -- cursors need no more than with a missing step more of an actor
 pub need_missing : (x : Actor) (g : Cursors) → NeedNoMore g (with_missing x g)

@@ -19,7 +19,7 @@ use Rattle.zy_order.specs.declared.plan.Plan.{Plan}
 use Rattle.zy_order.specs.declared.reached.Reached.{Reached}
 use Rattle.zy_order.specs.Orders.{entry_at}
 use Rattle.zy_order.specs.Ways.{at_start, cursors_in, NeedNoMore}
-use Rattle.zy_order.specs.Reaches.{cursors_at, entry_by, state_by, Extends, IsKnown, IsReached, IsWayOf, Adds, GoesOn}
+use Rattle.zy_order.specs.Reaches.{cursors_at, entry_by, state_by, IsKnown, IsReached, IsWayOf, Adds, GoesOn}
 use Rattle.zy_order.proofs.NeedLemmas.{need_self}
 use Rattle.zy_order.proofs.WayLemmas.{way_push}
 use Rattle.zy_order.proofs.ReachLemmas.{extends_on}

@@ -4,7 +4,6 @@ use Rattle.zy_isa.specs.declared.node.Node.{Node}
 use Rattle.zy_isa.specs.declared.node.Actor.{Actor}
 use Rattle.zy_isa.specs.declared.node.Actor.TheVariants.{C, A, B}
 use Rattle.zy_isa.specs.declared.choice.Choice.{Choice}
-use Rattle.zy_isa.specs.declared.choice.Choice.TheVariants.{Run}
 use Rattle.zy_isa.specs.Choices.{actor_of, actor_at}
 use Rattle.zy_model.specs.Order.{LocksRise}
 use Rattle.zy_table.specs.declared.entry.Entry.{Entry}
@@ -23,11 +22,11 @@ use Rattle.zy_order.specs.declared.cursors.Cursors.{Cursors}
 use Rattle.zy_order.specs.declared.plan.Plan.{Plan}
 use Rattle.zy_order.specs.declared.reached.Reached.{Reached}
 use Rattle.zy_order.specs.Orders.{entry_at}
-use Rattle.zy_order.specs.Ways.{log_of, cursor, cursor_of, gap_at, at_start, cursors_in, advanced, with_missing, of_nodes, line_count}
+use Rattle.zy_order.specs.Ways.{log_of, cursor, at_start, cursors_in, advanced, with_missing, of_nodes, line_count}
 use Rattle.zy_order.specs.Ways.{IsNoFurther, NeedNoMore, AreMatched, HasNext, HasGap, Leads, IsWay}
 use Rattle.zy_order.specs.Reaches.{cursors_at, entry_by, state_by, Extends, IsKnown, IsReached, IsMet, IsTried, FollowsAll, MayBeAlone, LeadsOn, FollowsAlone}
 use Rattle.zy_order.specs.Reaches.{IsFollowed, IsFurthestPath, IsWayOf, IsFurthestWay, IsPlan}
-use Rattle.zy_order.proofs.NeedLemmas.{need_self, need_on, need_missing, need_lines, way_less, matched_less, no_further_less, no_further_self, no_further_on}
+use Rattle.zy_order.proofs.NeedLemmas.{need_self, need_missing, need_lines, way_less, matched_less, no_further_less, no_further_self, no_further_on}
 use Rattle.zy_order.proofs.WayLemmas.{along, log_few, within_start}
 use Rattle.zy_order.proofs.AloneLemmas.{BeginsBy, begins_by}
 

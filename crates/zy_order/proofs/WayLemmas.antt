@@ -1,5 +1,5 @@
 -- Choices that go along the logs.
-use Rattle.std.proofs.Common.{◌≡◌, ◌∙◌, ℕ, ◌+◌, ◌<◌, ◌≤◌, inl, inr, List, [], ◌∷◌, ◌++◌, length, refl, sym, ap, subst, arith, true, take, get_or, slice_get, Some}
+use Rattle.std.proofs.Common.{◌≡◌, ◌∙◌, ℕ, ◌+◌, ◌<◌, ◌≤◌, inl, inr, List, [], ◌∷◌, ◌++◌, length, refl, sym, subst, arith, true, take, slice_get, Some}
 use Rattle.std.specs.Prelude.{sum}
 use Rattle.std.proofs.lemmas.Option.{slice_get_within}
 use Rattle.std.proofs.lemmas.Bool.{cases_lt}
@@ -16,10 +16,10 @@ use Rattle.zy_logs.specs.declared.log_line.LogLine.{LogLine}
 use Rattle.zy_order.specs.declared.logs.Logs.{Logs}
 use Rattle.zy_order.specs.declared.cursors.Cursor.{Cursor}
 use Rattle.zy_order.specs.declared.cursors.Cursors.{Cursors}
-use Rattle.zy_order.specs.Gaps.{gaps_of, gap_count}
+use Rattle.zy_order.specs.Gaps.{gaps_of}
 use Rattle.zy_order.specs.Orders.{entry_at}
-use Rattle.zy_order.specs.Ways.{log_of, cursor_of, cursor, at_start, gap_at, passed, filled, advanced, with_missing, line_count, step_count}
-use Rattle.zy_order.specs.Ways.{AreMatched, IsIn, IsWithin, HasNext, HasGap, MayBeMissing, Leads, IsWay, AreLinesOf}
+use Rattle.zy_order.specs.Ways.{log_of, cursor, at_start, gap_at, passed, filled, advanced, with_missing, step_count}
+use Rattle.zy_order.specs.Ways.{AreMatched, IsIn, IsWithin, HasNext, HasGap, Leads, IsWay, AreLinesOf}
 
 -- ---- in one log
 

@@ -1,11 +1,9 @@
 -- The next line may be followed alone, and leads on.
-use Rattle.std.proofs.Common.{◌≡◌, ◌∙◌, subst, sym, ap}
+use Rattle.std.proofs.Common.{◌≡◌, subst}
 use Rattle.zy_isa.specs.declared.node.Actor.{Actor}
-use Rattle.zy_isa.specs.Choices.{actor_at}
 use Rattle.zy_order.specs.declared.cursors.Cursors.{Cursors}
 use Rattle.zy_order.specs.declared.line.Met.{Met}
 use Rattle.zy_order.specs.declared.line.Met.TheVariants as met
-use Rattle.zy_order.specs.Ways.{log_of, cursor}
 use Rattle.zy_order.specs.Reaches.{Adds, FollowsAlone, IsMetBy, MayBeAlone}
 use Rattle.zy_order.proofs.LoopLemmas.{if_ok, alone_leads}
 use Rattle.zy_order.proofs.alone.follow_of.Goals as goal

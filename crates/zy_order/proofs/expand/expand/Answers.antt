@@ -1,5 +1,5 @@
 -- A run that did is followed alone, or all steps are.
-use Rattle.std.proofs.Common.{◌≡◌, ◌<◌, Bool, true, length, inl, inr}
+use Rattle.std.proofs.Common.{◌≡◌, Bool, true, inl, inr}
 use Rattle.std.proofs.lemmas.Result.{on_ok_weaker}
 use Rattle.zy_order.specs.Reaches.{Adds, FollowsAll, IsFollowed}
 use Rattle.zy_order.proofs.PushLemmas.{adds_on}

@@ -1,5 +1,5 @@
 -- The line fits and where it leads is known, or it does not fit.
-use Rattle.std.proofs.Common.{◌≡◌, ◌∙◌, ◌<◌, Bool, true, false, length, sym, ap, subst, arith}
+use Rattle.std.proofs.Common.{◌∙◌, ◌<◌, sym, ap, subst}
 use Rattle.std.proofs.Math.Bool.{false≢true}
 use Rattle.std.proofs.lemmas.Option.{slice_get_within}
 use Rattle.zy_order.specs.declared.cursors.Cursors.{Cursors}
@@ -15,8 +15,8 @@ attempt-requires-clause-named c =
     let g = cursors_at c.args.reached.now c.args.at in
     rw c.requires.here.scenario ((c.requires.under_way.plan.lines x (cursor x g) c.args.line.now c.requires.next).1)
 
-pub advanced-requires : goal.advanced-requires
-advanced-requires c =
+pub advanced-cursors-requires : goal.advanced-cursors-requires
+advanced-cursors-requires c =
     let p = c.args.plan.now in
     let x = c.args.actor in
     let g = cursors_at c.args.reached.now c.args.at in
@@ -42,4 +42,4 @@ returns-clause-met c =
     let same = c.in_ok-entry.ensures.entry ∙ entry_here h old at c.args.here.now line.choice c.requires.here in
     let there = c.advanced-cursors.ensures ∙ ap (advanced x) c.cursors_at.ensures in
     leads_by h old new at x line _ c.advanced-cursors.result c.in_ok-note.ensures.adds.extends c.requires.at same (c.agrees.ensures.0 c.if-not-agrees.false) there
-    (c.in_ok-note.ensures.known c.if-not-note.false)
+    (c.in_ok-note.ensures.known c.if-not-branch.false)
