@@ -26,6 +26,9 @@ ACTORS = 'CAB'
 
 GAP = '...'
 
+# The first words of the outcomes that change nothing.
+NOTHING = ('badmode', 'idle', 'elsewhere', 'notyet', 'waits', 'awaits', 'nomessage', 'held', 'stray', 'active', 'nopush')
+
 # How many steps a gap stands for at most, if nothing is said.
 DEFAULT_GAP = 4
 
@@ -137,15 +140,16 @@ def rank(made):
     return a + b, -client
 
 
-def is_did(log, at):
-    """Whether the line at a place of a log is a run that did."""
-    return any(line.choice[1] == 'run' and line.told == ['did'] for line in log[at:at + 1])
+def is_alone(log, at):
+    """Whether the line at a place of a log tells of a run that did, or that nothing came."""
+    return any(line.told[:1] == ['did'] or line.told and line.told[0] in NOTHING for line in log[at:at + 1])
 
 
-def places_by_did(scenario, logs, rooms, place):
-    """The place one line further of a node, A if both have one, whose next line is a run that did, if that fits and no step can be missing before it."""
+def place_alone(scenario, logs, rooms, place):
+    """The place one line further of a node, A if both have one, whose next line tells of a run that did, or that nothing came, if that fits and no step can be
+    missing before it."""
     for x in (ACTORS.index('A'), ACTORS.index('B')):
-        if is_did(logs[x], place.made[x]) and place.missing[x] >= rooms[x][place.made[x]]:
+        if is_alone(logs[x], place.made[x]) and place.missing[x] >= rooms[x][place.made[x]]:
             after = [after for after in places_by_lines(scenario, logs, place) if after.made[x] > place.made[x]]
             if after:
                 return after
@@ -158,7 +162,7 @@ def places_after(scenario, logs, rooms, place):
 
 
 def order(scenario, state, all_logs, gap, most, reduced=True):
-    """Whether there is an order of the logs from a state on, if at most so many places are reached. If it is reduced, a run that did is followed alone: it may
+    """Whether there is an order of the logs from a state on, if at most so many places are reached. If it is reduced, some lines are followed alone, which may
     come before all that the others do."""
     logs, rooms = [made_of(log) for log in all_logs], [room_in(log, gap) for log in all_logs]
     places, level = set(), {Place((0, 0, 0), (0, 0, 0), state)}
@@ -166,7 +170,7 @@ def order(scenario, state, all_logs, gap, most, reduced=True):
         places |= level
         if len(places) > most:
             raise TooMany
-        alone = {place: reduced and places_by_did(scenario, logs, rooms, place) for place in level}
+        alone = {place: reduced and place_alone(scenario, logs, rooms, place) for place in level}
         level = {after for place in level for after in alone[place] or places_after(scenario, logs, rooms, place)} - places
     found = any(place.made == tuple(map(len, logs)) for place in places)
     best = max(rank(place.made) for place in places)

@@ -1,5 +1,5 @@
 -- What is answered of the ways along the logs is answered of the orders of the lines.
-use Rattle.std.proofs.Common.{◌≡◌, ◌∙◌, ℕ, ◌+◌, List, length, refl, sym, ap, subst, arith}
+use Rattle.std.proofs.Common.{◌≡◌, ◌∙◌, ℕ, List, length, refl, sym, ap, subst, arith}
 use Rattle.zy_isa.specs.declared.node.Actor.{Actor}
 use Rattle.zy_isa.specs.declared.node.Actor.TheVariants.{C, A, B}
 use Rattle.zy_isa.specs.declared.choice.Choice.{Choice}
@@ -12,11 +12,11 @@ use Rattle.zy_order.specs.declared.plan.Plan.{Plan}
 use Rattle.zy_order.specs.declared.answer.OrderAnswer.{OrderAnswer}
 use Rattle.zy_order.specs.declared.answer.OrderAnswer.TheVariants.{Found, Nowhere, Spent}
 use Rattle.zy_order.specs.Gaps.{gaps_of, Completes}
-use Rattle.zy_order.specs.Orders.{lines_of, all_of, choices_of, Merges, IsPrefixOrder, IsOrder}
-use Rattle.zy_order.specs.Ways.{log_of, cursor_of, cursor, at_start, IsNoFurther, AreMatched, IsWay, AreLogs}
+use Rattle.zy_order.specs.Orders.{lines_of, all_of, choices_of, IsPrefixOrder}
+use Rattle.zy_order.specs.Ways.{log_of, cursor, at_start, IsNoFurther, AreMatched, IsWay, AreLogs}
 use Rattle.zy_order.specs.Answers.{MatchesAll, MatchesPrefixes, MatchesFurthest, IsNowhere, IsAnswer}
 use Rattle.zy_order.specs.Reaches.{AnswersFor}
-use Rattle.zy_order.proofs.GapLemmas.{Ahead, ahead_start, ahead_whole}
+use Rattle.zy_order.proofs.GapLemmas.{ahead_start, ahead_whole}
 use Rattle.zy_order.proofs.WayLemmas.{HaveGaps, within_start}
 use Rattle.zy_order.proofs.OrderLemmas.{IsAhead, order_of, way_of}
 use Rattle.zy_order.proofs.LineLemmas.{log_is}

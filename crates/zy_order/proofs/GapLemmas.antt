@@ -1,11 +1,11 @@
 -- Lines that complete the first lines of a log.
-use Rattle.std.proofs.Common.{◌≡◌, ◌∙◌, ℕ, zero, suc, ◌+◌, ◌-◌, ◌<◌, ◌≤◌, ◌⊎◌, inl, inr, List, [], ◌∷◌, ◌++◌, length, refl, sym, ap, subst, arith, drop, get_or, slice_get, Some}
+use Rattle.std.proofs.Common.{◌≡◌, ◌∙◌, ℕ, zero, suc, ◌+◌, ◌-◌, ◌<◌, ◌⊎◌, inl, inr, List, [], ◌∷◌, ◌++◌, length, refl, sym, ap, subst, arith, drop, slice_get, Some}
 use Rattle.std.proofs.lemmas.Option.{slice_get_within, get_or_from_slice_get}
 use Rattle.std.proofs.lemmas.List.{drop_more}
 use Rattle.zy_isa.specs.declared.node.Actor.{Actor}
 use Rattle.zy_logs.specs.declared.log_line.LogLine.{LogLine}
 use Rattle.zy_order.specs.declared.cursors.Cursor.{Cursor}
-use Rattle.zy_order.specs.Gaps.{IsMissing, FillsGap, HasLine, Completes}
+use Rattle.zy_order.specs.Gaps.{IsMissing, FillsGap, Completes}
 use Rattle.zy_order.specs.Ways.{gap_at, passed, filled, log_start, IsIn}
 
 -- ---- lists

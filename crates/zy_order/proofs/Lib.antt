@@ -4,6 +4,7 @@ pub mod WayLemmas
 pub mod OrderLemmas
 pub mod LineLemmas
 pub mod AnswerLemmas
+pub mod AloneLemmas
 pub mod ReachLemmas
 pub mod PushLemmas
 pub mod LoopLemmas

@@ -5,7 +5,7 @@ use Rattle.zy_isa.specs.declared.node.Actor.{Actor}
 use Rattle.zy_isa.specs.declared.node.Actor.TheVariants.{C, A, B}
 use Rattle.zy_isa.specs.Choices.{actor_of, names_below}
 use Rattle.zy_isa.specs.Scenario.{AreNamed}
-use Rattle.zy_machine.specs.Histories.{History}
+use Rattle.zy_machine.specs.Histories.{History, IsReplay}
 use Rattle.zy_threads.specs.Turns.{is_c, is_a, is_b}
 use Rattle.zy_logs.specs.declared.log_line.LogLine.{LogLine}
 use Rattle.zy_order.specs.declared.logs.Logs.{Logs}
@@ -89,13 +89,14 @@ lines_are_of count x (line ∷ lines) named =
     (lines_are_of count x lines named.1))
 
 -- a plan has logs of the lines, and its history has room for all steps
-pub plan_is : (p : Plan) (h : History) (lines : List LogLine) (gaps : Gaps) → p.start ≡ h → AreLogs lines gaps p.logs → IsInput h lines gaps
+pub plan_is : (p : Plan) (h : History) (lines : List LogLine) (gaps : Gaps) → p.start ≡ h → AreLogs lines gaps p.logs → IsReplay h → IsInput h lines gaps
     → p.choices.items ≡ considered all_kinds (length h.scenario.programs)
     → IsPlan p
-plan_is p h lines gaps same is input choices =
+plan_is p h lines gaps same is replay input choices =
     let count = length p.start.scenario.programs in
     let named = subst (λ (k : History). AreNamed (length k.scenario.programs) (choices_of lines)) (sym same) input.named in
     record {
+      replay = subst IsReplay (sym same) replay;
       lines = λ x. subst (AreLinesOf count x) (sym (log_is x lines gaps p.logs is)) (lines_are_of count x lines named);
       gaps = λ x.
           ap (λ (g : Gaps). length (gaps_of x g)) is.of_gaps ∙ (input.many x

@@ -1,5 +1,5 @@
 -- One path after another is followed.
-use Rattle.std.proofs.Common.{◌≡◌, ◌∙◌, ℕ, zero, suc, slice_get, ◌<◌, ◌≤◌, inl, inr, List, [], ◌∷◌, ◌++◌, length, refl, ◌+◌, Bool, ◌&&◌, sym, ap, subst, arith, true, get_or}
+use Rattle.std.proofs.Common.{◌≡◌, ◌∙◌, ℕ, zero, suc, slice_get, ◌<◌, ◌≤◌, ◌⊎◌, inl, inr, List, [], ◌∷◌, ◌++◌, length, refl, ◌+◌, Bool, ◌&&◌, sym, ap, subst, arith, true, get_or}
 use Rattle.std.proofs.Common.{Option, None, Some, Result, Ok, Err, OnOk, IfOk}
 use Rattle.std.specs.Prelude.{Contains, IsSome, option_to_list, sum}
 use Rattle.std.proofs.lemmas.List.Sums.{sum_by-cons}
@@ -9,9 +9,11 @@ use Rattle.std.proofs.lemmas.List.Elements.{Contains-append_left, Contains-push,
 use Rattle.zy_isa.specs.declared.choice.Choice.{Choice}
 use Rattle.zy_isa.specs.declared.choice.Choice.TheVariants.{Start, Begin, Kill, Run, Take, Finish, Push}
 use Rattle.zy_isa.specs.declared.node.Actor.{Actor}
+use Rattle.zy_isa.specs.declared.node.Node.{Node}
 use Rattle.zy_isa.specs.declared.node.Actor.TheVariants.{C, A, B}
-use Rattle.zy_isa.specs.Choices.{actor_of, names_below}
+use Rattle.zy_isa.specs.Choices.{actor_of, actor_at, names_below}
 use Rattle.zy_table.specs.Play.{step}
+use Rattle.zy_logs.specs.Agrees.{Agrees}
 use Rattle.zy_logs.specs.declared.log_line.LogLine.{LogLine}
 use Rattle.zy_search.specs.Searches.{reached}
 use Rattle.zy_machine.specs.Histories.{History}
@@ -26,12 +28,15 @@ use Rattle.zy_order.specs.declared.cursors.Cursors.{Cursors}
 use Rattle.zy_order.specs.declared.plan.Plan.{Plan}
 use Rattle.zy_order.specs.declared.reached.Reached.{Reached}
 use Rattle.zy_order.specs.declared.turns.Turns.{Turns}
+use Rattle.zy_order.specs.declared.line.Met.{Met}
+use Rattle.zy_order.specs.declared.line.Met.TheVariants as met
 use Rattle.zy_order.specs.declared.gaps.Gaps.{Gaps}
 use Rattle.zy_order.specs.Gaps.{gaps_of, gap_count}
-use Rattle.zy_order.specs.Orders.{entry_at}
-use Rattle.zy_order.specs.Ways.{log_of, cursor_of, cursor, cursors_in, gap_at, advanced, with_missing, AreMatched, HasNext, HasGap}
-use Rattle.zy_order.specs.Reaches.{all_kinds, cursors_at, IsReached, Extends, IsMet, AreMet, IsTried, AreTried, IsFollowed, AreFollowedBut, HasEachActor}
+use Rattle.zy_order.specs.Ways.{log_of, cursor_of, cursor, cursors_in, gap_at, advanced, with_missing, AreMatched, HasGap}
+use Rattle.zy_order.specs.Reaches.{all_kinds, cursors_at, IsReached, Extends, IsMet, AreMet, IsTried, AreTried, MayBeAlone, LeadsOn, FollowsAll, FollowsAlone}
+use Rattle.zy_order.specs.Reaches.{IsFollowed, AreFollowedBut, HasEachActor, IsMetBy}
 use Rattle.zy_order.specs.Reaches.{Adds, IsPlan, IsTaken, IsWayOf, IsKnown, entry_by, state_by}
+use Rattle.zy_order.proofs.WayLemmas.{same_line}
 use Rattle.zy_order.proofs.ReachLemmas.{extends_same, tried_on, followed_on}
 
 -- ---- what is to do
@@ -129,25 +134,36 @@ all_met h l r at t all first second third = λ x.
           ]
     ]
 
--- where the next line of an actor leads to a state that is known, the line is met
-pub met_by : (h : History) (l : Logs) (r new : Reached) (i : ℕ) (x : Actor) (line : LogLine) (g to : Cursors) → Extends r new → i < length r.visited
-    → g ≡ cursors_at r i → to ≡ advanced x g → slice_get (log_of x l) (cursor x g) ≡ Some line → IsKnown h new to (state_by h r i line.choice)
-    → IsMet h l new i x
-met_by h l r new i x line g to e lt here there at known = λ c own.
-    let next_at : slice_get (log_of x l) (cursor x (cursors_at r i)) ≡ Some line =
-    subst (λ (f : Cursors). slice_get (log_of x l) (cursor x f) ≡ Some line) here at in
-    let after : IsKnown h new (advanced x (cursors_at r i)) (state_by h r i line.choice) =
-    subst (λ (f : Cursors). IsKnown h new f (state_by h r i line.choice)) (there ∙ ap (advanced x) here) known in
-    subst (λ (f : Cursors). HasNext l f (entry_by h new i c) → IsKnown h new (advanced x f) (state_by h new i c)) (sym (e.cursors i lt))
-    (subst (λ (path : List Choice). HasNext l (cursors_at r i) (entry_at h.scenario (reached h path) c)
-    → IsKnown h new (advanced x (cursors_at r i)) (step h.scenario c (reached h path)).after) (sym (e.paths.same i lt))
-    (λ next.
-    let own_at : slice_get (log_of x l) (cursor x (cursors_at r i)) ≡ Some next.line =
-    subst (λ (y : Actor). slice_get (log_of y l) (cursor y (cursors_at r i)) ≡ Some next.line) own next.next in
-    let both : Some line ≡ Some next.line = sym next_at ∙ own_at in
-    let one : line ≡ next.line = cc both in
-    let same : line.choice ≡ c = ap (λ (m : LogLine). m.choice) one ∙ next.choice in
-    subst (λ (d : Choice). IsKnown h new (advanced x (cursors_at r i)) (state_by h r i d)) same after))
+-- the next line of an actor is where it was
+pub next_on : (l : Logs) (r new : Reached) (i : ℕ) (x : Actor) (line : LogLine) → Extends r new → i < length r.visited
+    → slice_get (log_of x l) (cursor x (cursors_at r i)) ≡ Some line → slice_get (log_of x l) (cursor x (cursors_at new i)) ≡ Some line
+next_on l r new i x line e lt next = subst (λ (g : Cursors). slice_get (log_of x l) (cursor x g) ≡ Some line) (sym (e.cursors i lt)) next
+
+module _ (h : History) (l : Logs) (r : Reached) (i : ℕ) (x : Actor) (line : LogLine) (next : slice_get (log_of x l) (cursor x (cursors_at r i)) ≡ Some line) where
+  -- a next line that leads on is met
+  pub met_leads : LeadsOn h r i x line → IsMet h l r i x
+  met_leads leads = λ c own fits.
+      let one = same_line l (cursors_at r i) (entry_by h r i c) x line own next fits in
+      let same : line.choice ≡ c = ap (λ (m : LogLine). m.choice) one ∙ fits.choice in
+      subst (λ (d : Choice). IsKnown h r (advanced x (cursors_at r i)) (state_by h r i d)) same leads.known
+
+  -- so is one that does not fit
+  pub met_unfit : (Agrees line (entry_by h r i line.choice) → ⊥) → IsMet h l r i x
+  met_unfit unfit = λ c own fits.
+      let one = same_line l (cursors_at r i) (entry_by h r i c) x line own next fits in
+      let same : line.choice ≡ c = ap (λ (m : LogLine). m.choice) one ∙ fits.choice in
+      let agrees = subst (λ (m : LogLine). Agrees m (entry_by h r i c)) (sym one) fits.agrees in
+      absurd (unfit (subst (λ (d : Choice). Agrees line (entry_by h r i d)) (sym same) agrees))
+
+-- a next line that may be followed alone and leads on is
+pub alone_leads : (h : History) (l : Logs) (r new : Reached) (i : ℕ) (n : Node) (line : LogLine) (m : Met) → Extends r new → i < length r.visited
+    → MayBeAlone n l (cursors_at r i) line → IsMetBy h new i (actor_at n) line m → m ≡ met.Known → FollowsAlone h l new i
+alone_leads h l r new i n line m e lt may came known = record {
+  node = n;
+  line = line;
+  may = subst (λ (g : Cursors). MayBeAlone n l g line) (sym (e.cursors i lt)) may;
+  leads = subst (IsMetBy h new i (actor_at n) line) known came;
+}
 
 -- ---- missing steps
 
@@ -219,16 +235,15 @@ all_tried h l r at n cs e le tried = λ c named.
     let is : get_or cs here.0 Start ≡ c = ap (λ (ds : List Choice). get_or ds here.0 Start) e ∙ here.2 in
     subst (IsTried h l r at) is (tried here.0 (omega (arith, here.1, all, le)))
 
--- where each choice was tried and then each next line met, the path was followed
-pub is_followed : (h : History) (l : Logs) (r new last : Reached) (at : ℕ) → at < length r.visited → Extends r new → Extends new last
-    → (AreMatched l (cursors_at r at) → ⊥) → AreTried h l new at → AreMet h l last at → IsFollowed h l last at
-is_followed h l r new last at lt x y part tried met =
-    let there : at < length new.visited = omega (arith, lt, x.paths.longer) in
-    record {
-      part = λ end. part (subst (AreMatched l) (y.cursors at there ∙ x.cursors at lt) end);
-      tried = λ c named. tried_on h l new last at c y there (tried c named);
-      met = met;
-    }
+-- where each choice was tried and then each next line met, all steps were followed
+pub all_followed : (h : History) (l : Logs) (r new : Reached) (at : ℕ) → at < length r.visited → Extends r new → AreTried h l r at → AreMet h l new at
+    → FollowsAll h l new at
+all_followed h l r new at lt e tried met = record { tried = λ c named. tried_on h l r new at c e lt (tried c named); met = met }
+
+-- where steps of a path were followed, and it does not match all lines, it was followed
+pub is_followed : (h : History) (l : Logs) (r new : Reached) (at : ℕ) → at < length r.visited → Extends r new → (AreMatched l (cursors_at r at) → ⊥)
+    → FollowsAll h l new at ⊎ FollowsAlone h l new at → IsFollowed h l new at
+is_followed h l r new at lt e part steps = record { part = λ end. part (subst (AreMatched l) (e.cursors at lt) end); steps = steps }
 
 -- ---- results
 

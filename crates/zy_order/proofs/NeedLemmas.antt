@@ -1,16 +1,20 @@
 -- Cursors that need no more missing steps than others: what leads on from the others leads on from them.
-use Rattle.std.proofs.Common.{◌≡◌, ◌∙◌, ℕ, ◌+◌, ◌<◌, ◌≤◌, inl, inr, List, refl, sym, ap, subst, arith, length, slice_get, Some}
+use Rattle.std.proofs.Common.{◌≡◌, ◌∙◌, ℕ, ◌+◌, inl, inr, List, [], ◌∷◌, refl, sym, ap, subst, arith, length, slice_get}
 use Rattle.zy_isa.specs.declared.node.Actor.{Actor}
 use Rattle.zy_isa.specs.declared.node.Actor.TheVariants.{C, A, B}
+use Rattle.zy_isa.specs.declared.choice.Choice.{Choice}
 use Rattle.zy_isa.specs.Choices.{actor_of}
+use Rattle.zy_isa.specs.Scenario.{Scenario}
 use Rattle.zy_table.specs.declared.entry.Entry.{Entry}
-use Rattle.zy_logs.specs.declared.log_line.LogLine.{LogLine}
+use Rattle.zy_table.specs.State.{State}
+use Rattle.zy_table.specs.Play.{step}
 use Rattle.zy_order.specs.declared.logs.Logs.{Logs}
 use Rattle.zy_order.specs.declared.cursors.Cursor.{Cursor}
 use Rattle.zy_order.specs.declared.cursors.Cursors.{Cursors}
 use Rattle.zy_order.specs.Gaps.{gaps_of}
-use Rattle.zy_order.specs.Ways.{log_of, cursor_of, cursor, gap_at, passed, filled, advanced, with_missing, of_nodes}
-use Rattle.zy_order.specs.Ways.{NeedsNoMore, NeedNoMore, IsNoFurther, AreMatched, HasNext, HasGap, Leads}
+use Rattle.zy_order.specs.Orders.{entry_at}
+use Rattle.zy_order.specs.Ways.{log_of, cursor_of, gap_at, passed, filled, advanced, with_missing, of_nodes}
+use Rattle.zy_order.specs.Ways.{NeedsNoMore, NeedNoMore, IsNoFurther, AreMatched, HasNext, HasGap, Leads, IsWay}
 
 -- ---- cursors
 
@@ -22,11 +26,7 @@ needs_self p = record { lines = refl; missing = omega arith }
 needs_filled : (p : Cursor) → NeedsNoMore p (filled p)
 needs_filled p = record { lines = refl; missing = omega arith }
 
--- where it needs no more than another, and that no more than a third, it needs no more than the third
-needs_on : (p q r : Cursor) → NeedsNoMore p q → NeedsNoMore q r → NeedsNoMore p r
-needs_on p q r x y = record { lines = x.lines ∙ y.lines; missing = omega (arith, x.missing, y.missing) }
-
--- so it is behind the next line
+-- where it needs no more than another, it needs no more behind the next line
 needs_passed : (p q : Cursor) → NeedsNoMore p q → NeedsNoMore (passed p) (passed q)
 needs_passed p q x = record { lines = ap (λ n. n + 1) x.lines; missing = omega arith }
 
@@ -39,18 +39,15 @@ needs_both p q x = record { lines = x.lines; missing = omega (arith, x.missing) 
 pub need_self : (g : Cursors) → NeedNoMore g g
 need_self g = record { of_c = needs_self g.c; of_a = needs_self g.a; of_b = needs_self g.b }
 
-pub need_on : (f g k : Cursors) → NeedNoMore f g → NeedNoMore g k → NeedNoMore f k
-need_on f g k x y = record {
-  of_c = needs_on f.c g.c k.c x.of_c y.of_c;
-  of_a = needs_on f.a g.a k.a x.of_a y.of_a;
-  of_b = needs_on f.b g.b k.b x.of_b y.of_b;
-}
-
 -- cursors need no more than with a missing step more of an actor
 pub need_missing : (x : Actor) (g : Cursors) → NeedNoMore g (with_missing x g)
 need_missing C g = record { of_c = needs_filled g.c; of_a = needs_self g.a; of_b = needs_self g.b }
 need_missing A g = record { of_c = needs_self g.c; of_a = needs_filled g.a; of_b = needs_self g.b }
 need_missing B g = record { of_c = needs_self g.c; of_a = needs_self g.a; of_b = needs_filled g.b }
+
+-- they have as many lines matched
+pub need_lines : (f g : Cursors) → NeedNoMore f g → f.c.lines + of_nodes f ≡ g.c.lines + of_nodes g
+need_lines f g n = omega (arith, n.of_c.lines, n.of_a.lines, n.of_b.lines)
 
 -- behind the next line of an actor they need no more
 need_advanced : (x : Actor) (f g : Cursors) → NeedNoMore f g → NeedNoMore (advanced x f) (advanced x g)
@@ -114,6 +111,21 @@ leads_less count l f g e next n leads =
       }
     ]
 
+-- where a way leads from cursors that need no more than others
+pub record IsWayLess (sc : Scenario) (l : Logs) (f : Cursors) (s : State) (cs : List Choice) (to : Cursors) : Type 0 where
+  pub end : Cursors
+  pub way : IsWay sc l f s cs end
+  pub need : NeedNoMore end to
+
+-- a way from the others is one from them, to cursors that need no more
+pub way_less : (sc : Scenario) (l : Logs) (f g : Cursors) (s : State) (cs : List Choice) (to : Cursors) → NeedNoMore f g → IsWay sc l g s cs to
+    → IsWayLess sc l f s cs to
+way_less sc l f g s [] to n way = record { end = f; way = refl; need = subst (NeedNoMore f) way n }
+way_less sc l f g s (c ∷ cs) to n way =
+    let first = leads_less (length sc.programs) l f g (entry_at sc s c) way.0 n way.1 in
+    let rest = way_less sc l first.to way.0 (step sc c s).after cs to first.need way.2 in
+    record { end = rest.end; way = (first.to, first.leads, rest.way); need = rest.need }
+
 -- ---- where they lead in the end
 
 -- they match all lines where the others do
@@ -125,4 +137,15 @@ pub no_further_less : (f g k : Cursors) → NeedNoMore f g → IsNoFurther f k �
 no_further_less f g k n x = record {
   nodes = omega (arith, x.nodes, n.of_a.lines, n.of_b.lines);
   client = λ e. omega (arith, x.client (omega (arith, e, n.of_a.lines, n.of_b.lines)), n.of_c.lines);
+}
+
+-- cursors are no further than themselves
+pub no_further_self : (g : Cursors) → IsNoFurther g g
+no_further_self g = record { nodes = omega arith; client = λ e. omega arith }
+
+-- where they are no further than others, and these no further than third ones, they are no further than those
+pub no_further_on : (f g k : Cursors) → IsNoFurther f g → IsNoFurther g k → IsNoFurther f k
+no_further_on f g k x y = record {
+  nodes = omega (arith, x.nodes, y.nodes);
+  client = λ e. omega (arith, x.client (omega (arith, e, x.nodes, y.nodes)), y.client (omega (arith, e, x.nodes, y.nodes)));
 }

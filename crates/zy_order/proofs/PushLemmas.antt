@@ -5,6 +5,8 @@ use Rattle.std.proofs.lemmas.Bool.{cases_lt}
 use Rattle.std.proofs.lemmas.List.{get_or_append_left, get_or_push}
 use Rattle.std.proofs.lemmas.List.Elements.{Contains-append_left, Contains-push, Contains-push_cases}
 use Rattle.zy_isa.specs.declared.choice.Choice.{Choice}
+use Rattle.zy_isa.specs.Scenario.{Scenario}
+use Rattle.zy_table.specs.State.{State}
 use Rattle.zy_machine.specs.Histories.{History}
 use Rattle.zy_search.specs.Searches.{reached}
 use Rattle.zy_search.specs.Visits.{path_at, Grows, IsHere, IsShelf}
@@ -15,8 +17,9 @@ use Rattle.zy_search.proofs.ShelfLemmas.{shelf_grown}
 use Rattle.zy_order.specs.declared.cursors.Cursors.{Cursors}
 use Rattle.zy_order.specs.declared.plan.Plan.{Plan}
 use Rattle.zy_order.specs.declared.reached.Reached.{Reached}
+use Rattle.zy_order.specs.Orders.{entry_at}
 use Rattle.zy_order.specs.Ways.{at_start, cursors_in, NeedNoMore}
-use Rattle.zy_order.specs.Reaches.{cursors_at, state_by, Extends, IsKnown, IsReached, IsWayOf, Adds, GoesOn}
+use Rattle.zy_order.specs.Reaches.{cursors_at, entry_by, state_by, IsKnown, IsReached, IsWayOf, Adds, GoesOn}
 use Rattle.zy_order.proofs.NeedLemmas.{need_self}
 use Rattle.zy_order.proofs.WayLemmas.{way_push}
 use Rattle.zy_order.proofs.ReachLemmas.{extends_on}
@@ -138,6 +141,11 @@ module _ (p : Plan) (r new : Reached) (b : Branch) (to : Cursors) (m : History) 
     still = λ i at.
         subst (λ (l : List ℕ). Contains l i) (sym todo) (Contains-append_left r.todo.items (length r.visited ∷ []) i at);
   }
+
+-- what comes of a choice from the state of a machine where a path leads
+pub entry_here : (h : History) (r : Reached) (at : ℕ) (m : History) (c : Choice) → IsHere h r.visited at m → entry_at m.scenario m.state c ≡ entry_by h r at c
+entry_here h r at m c here =
+    ap (λ (sc : Scenario). entry_at sc m.state c) here.scenario ∙ ap (λ (s : State). entry_at h.scenario s c) here.state
 
 -- paths are added, and then others
 pub adds_on : (p : Plan) (r s t : Reached) (m n : Shelf) → Adds p r s m → Adds p s t n → Adds p r t n

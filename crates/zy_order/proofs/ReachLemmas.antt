@@ -1,12 +1,19 @@
 -- What a search knows of the paths that it has reached.
-use Rattle.std.proofs.Common.{◌≡◌, ◌∙◌, ℕ, ◌<◌, inl, inr, List, [], ◌∷◌, length, refl, sym, ap, subst, arith}
-use Rattle.std.proofs.lemmas.Option.{slice_get_within}
+use Rattle.std.proofs.Common.{◌≡◌, ◌∙◌, ℕ, zero, suc, ◌+◌, ◌<◌, ◌≤◌, inl, inr, List, [], ◌∷◌, length, refl, sym, ap, subst, arith}
+use Rattle.zy_isa.specs.declared.node.Node.{Node}
 use Rattle.zy_isa.specs.declared.node.Actor.{Actor}
+use Rattle.zy_isa.specs.declared.node.Actor.TheVariants.{C, A, B}
 use Rattle.zy_isa.specs.declared.choice.Choice.{Choice}
-use Rattle.zy_isa.specs.Choices.{actor_of}
-use Rattle.zy_table.specs.State.{State}
-use Rattle.zy_table.specs.Play.{play, step}
-use Rattle.zy_machine.specs.Histories.{History}
+use Rattle.zy_isa.specs.Choices.{actor_of, actor_at}
+use Rattle.zy_model.specs.Order.{LocksRise}
+use Rattle.zy_table.specs.declared.entry.Entry.{Entry}
+use Rattle.zy_table.specs.State.{State, facing}
+use Rattle.zy_table.specs.Play.{step}
+use Rattle.zy_laws.proofs.walk.PlayPush.{play-keeps}
+use Rattle.zy_laws.proofs.order.ListsInOrder.{Tidy, ordered_from, step_tidy, tidy}
+use Rattle.zy_machine.specs.Histories.{History, choices_of}
+use Rattle.zy_logs.specs.Agrees.{Agrees}
+use Rattle.zy_logs.specs.declared.log_line.LogLine.{LogLine}
 use Rattle.zy_search.specs.Searches.{reached}
 use Rattle.zy_search.specs.Visits.{path_at, Grows}
 use Rattle.zy_search.proofs.SearchLemmas.{grows_on}
@@ -15,73 +22,163 @@ use Rattle.zy_order.specs.declared.cursors.Cursors.{Cursors}
 use Rattle.zy_order.specs.declared.plan.Plan.{Plan}
 use Rattle.zy_order.specs.declared.reached.Reached.{Reached}
 use Rattle.zy_order.specs.Orders.{entry_at}
-use Rattle.zy_order.specs.Ways.{log_of, cursor, cursor_of, gap_at, at_start, cursors_in, advanced, with_missing, of_nodes, IsNoFurther, NeedNoMore, AreMatched, HasNext, HasGap, Leads, IsWay}
-use Rattle.zy_order.specs.Reaches.{cursors_at, entry_by, state_by, Extends, IsKnown, IsReached, IsMet, IsTried, IsFollowed, IsFurthestPath, IsWayOf, IsFurthestWay, IsPlan}
-use Rattle.zy_order.proofs.NeedLemmas.{need_self, need_on, leads_less, matched_less, no_further_less}
-use Rattle.zy_order.proofs.WayLemmas.{log_few}
+use Rattle.zy_order.specs.Ways.{log_of, cursor, at_start, cursors_in, advanced, with_missing, of_nodes, line_count}
+use Rattle.zy_order.specs.Ways.{IsNoFurther, NeedNoMore, AreMatched, HasNext, HasGap, Leads, IsWay}
+use Rattle.zy_order.specs.Reaches.{cursors_at, entry_by, state_by, Extends, IsKnown, IsReached, IsMet, IsTried, FollowsAll, MayBeAlone, LeadsOn, FollowsAlone}
+use Rattle.zy_order.specs.Reaches.{IsFollowed, IsFurthestPath, IsWayOf, IsFurthestWay, IsPlan}
+use Rattle.zy_order.proofs.NeedLemmas.{need_self, need_missing, need_lines, way_less, matched_less, no_further_less, no_further_self, no_further_on}
+use Rattle.zy_order.proofs.WayLemmas.{along, log_few, within_start}
+use Rattle.zy_order.proofs.AloneLemmas.{BeginsBy, begins_by}
 
--- ---- closed under steps that lead on
+-- ---- each way is outdone
 
--- where a path was followed, each step that leads on from it leads where a path does
-followed_leads : (h : History) (l : Logs) (r : Reached) (i : ℕ) (c : Choice) (next : Cursors) → IsFollowed h l r i
+-- where all steps were followed, each step that leads on leads where a path does
+all_lead : (h : History) (l : Logs) (r : Reached) (i : ℕ) (c : Choice) (next : Cursors) → FollowsAll h l r i
     → Leads (length h.scenario.programs) l (cursors_at r i) (entry_by h r i c) next → IsKnown h r next (state_by h r i c)
-followed_leads h l r i c next is leads =
+all_lead h l r i c next is leads =
     elim leads [
       | inl by ↦ subst (λ (g : Cursors). IsKnown h r g (state_by h r i c)) (sym by.1) (is.met (actor_of c) c refl by.0)
       | inr by ↦ subst (λ (g : Cursors). IsKnown h r g (state_by h r i c)) (sym by.1) (is.tried c by.0.named by.0.gap)
     ]
 
--- where a path leads to a state is known with other cursors that need more
-known_more : (h : History) (r : Reached) (f g : Cursors) (s : State) → NeedNoMore f g → IsKnown h r f s → IsKnown h r g s
-known_more h r f g s n known = (known.0, known.1, need_on (cursors_at r known.0) f g known.2 n, known.3)
+-- how many lines are matched
+abbrev lines_in : Cursors → ℕ
+lines_in g = g.c.lines + of_nodes g
 
--- where each path was followed, a step that leads on from where one leads goes to where one leads
-step_known : (h : History) (l : Logs) (r : Reached) → ((i : ℕ) → i < length r.visited → IsFollowed h l r i) → (c : Choice) (g next : Cursors) (s : State)
-    → IsKnown h r g s → Leads (length h.scenario.programs) l g (entry_at h.scenario s c) next
-    → IsKnown h r next (step h.scenario c s).after
-step_known h l r all c g next s known leads =
-    let sc = h.scenario in
-    let count = length sc.programs in
-    let i = known.0 in
-    let here : Leads count l g (entry_by h r i c) next = subst (λ (x : State). Leads count l g (entry_at sc x c) next) (sym known.3) leads in
-    let less = leads_less count l (cursors_at r i) g (entry_by h r i c) next known.2 here in
-    let after = known_more h r less.to next (state_by h r i c) less.need (followed_leads h l r i c less.to (all i known.1) less.leads) in
-    subst (λ (x : State). IsKnown h r next (step sc c x).after) known.3 after
+-- with one line more of an actor there is one more
+lines_advanced : (x : Actor) (g : Cursors) → lines_in (advanced x g) ≡ lines_in g + 1
+lines_advanced C g = omega arith
+lines_advanced A g = omega arith
+lines_advanced B g = omega arith
 
--- so does a way
-stays_known : (h : History) (l : Logs) (r : Reached) → ((i : ℕ) → i < length r.visited → IsFollowed h l r i) → (cs : List Choice) (g to : Cursors)
-    (s : State) → IsKnown h r g s → IsWay h.scenario l g s cs to
-    → IsKnown h r to (play h.scenario s cs)
-stays_known h l r all [] g to s known way = subst (λ (f : Cursors). IsKnown h r f s) way known
-stays_known h l r all (c ∷ cs) g to s known way =
-    stays_known h l r all cs way.0 to (step h.scenario c s).after (step_known h l r all c g way.0 s known way.1) way.2
+-- a step leads to no fewer lines
+lines_lead : (count : ℕ) (l : Logs) (g : Cursors) (e : Entry) (to : Cursors) → Leads count l g e to → lines_in g ≤ lines_in to
+lines_lead count l g e to leads = elim leads [
+  | inl by ↦ omega (arith, lines_advanced (actor_of e.choice) g, ap lines_in by.1)
+  | inr by ↦ omega (arith, need_lines g (with_missing (actor_of e.choice) g) (need_missing (actor_of e.choice) g), ap lines_in by.1)
+]
+
+-- not all lines are matched by cursors, and a path leads as far
+pub record IsOutdone (l : Logs) (r : Reached) (to : Cursors) : Type 0 where
+  pub part : AreMatched l to → ⊥
+  pub place : ℕ
+  pub there : place < length r.visited
+  pub further : IsNoFurther to (cursors_at r place)
+
+-- so are cursors that need more missing steps
+outdone_less : (l : Logs) (r : Reached) (f g : Cursors) → NeedNoMore f g → IsOutdone l r f → IsOutdone l r g
+outdone_less l r f g n is = record {
+  part = λ end. is.part (matched_less l f g n end);
+  place = is.place;
+  there = is.there;
+  further = no_further_less f g (cursors_at r is.place) n is.further;
+}
+
+-- Each path was followed.
+module _ (p : Plan) (r : Reached) (plan : IsPlan p) (is : IsReached p r) (all : (i : ℕ) → i < length r.visited → IsFollowed p.start p.logs r i) where
+  abbrev h : History
+  h = p.start
+
+  abbrev l : Logs
+  l = p.logs
+
+  -- the state where the path at a place leads
+  abbrev state_at : ℕ → State
+  state_at i = reached h (path_at r.visited i)
+
+  -- no more lines are matched there than there are
+  lines_few : (i : ℕ) → i < length r.visited → lines_in (cursors_at r i) ≤ line_count l
+  lines_few i lt =
+      let within = (along h.scenario l at_start h.state (path_at r.visited i) (cursors_at r i) plan.gaps (within_start l) (is.ways i lt)).within in
+      omega (arith, within.of_c.lines, within.of_a.lines, within.of_b.lines)
+
+  -- each way from a path is outdone, if no more choices and lines are left than this
+  abbrev Ends : ℕ → Type 0
+  Ends most = (i : ℕ) → i < length r.visited → (cs : List Choice) (to : Cursors) → IsWay h.scenario l (cursors_at r i) (state_at i) cs to
+      → length cs + line_count l ≤ most + lines_in (cursors_at r i) → IsOutdone l r to
+
+  -- one without a choice is
+  ends_here : (i : ℕ) → i < length r.visited → (to : Cursors) → cursors_at r i ≡ to → IsOutdone l r to
+  ends_here i lt to way =
+      subst (IsOutdone l r) way (record { part = (all i lt).part; place = i; there = lt; further = no_further_self (cursors_at r i) })
+
+  -- so is one from where a path leads
+  from_known : (most : ℕ) → Ends most → (g : Cursors) (s : State) → IsKnown h r g s → (cs : List Choice) (to : Cursors) → IsWay h.scenario l g s cs to
+      → length cs + line_count l ≤ most + lines_in g → IsOutdone l r to
+  from_known most ends g s known cs to way few =
+      let i = known.0 in
+      let here = subst (λ (x : State). IsWay h.scenario l g x cs to) (sym known.3) way in
+      let less = way_less h.scenario l (cursors_at r i) g (state_at i) cs to known.2 here in
+      outdone_less l r less.end to less.need (ends i known.1 cs less.end less.way (omega (arith, few, need_lines (cursors_at r i) g known.2)))
+
+  -- the locks of a node are in order there
+  locks_at : (n : Node) (i : ℕ) → LocksRise (facing n (state_at i)).me.locks
+  locks_at n i =
+      let sc = h.scenario in
+      let start = subst Tidy (sym plan.replay.state) (tidy sc plan.replay.tested (choices_of h.entries)) in
+      let here = play-keeps sc Tidy (step_tidy sc) (path_at r.visited i) h.state start in
+      (ordered_from n (state_at i) here.ordered).mine.locks
+
+  -- where a line was followed alone, a way that begins by it leads as far
+  begins_at : (i : ℕ) (one : FollowsAlone h l r i) (cs : List Choice) (to : Cursors) → IsWay h.scenario l (cursors_at r i) (state_at i) cs to
+      → BeginsBy h.scenario l one.line.choice (cursors_at r i) (state_at i) cs to (actor_at one.node)
+  begins_at i one cs to way =
+      let g = cursors_at r i in
+      let x = actor_at one.node in
+      let own = (plan.lines x (cursor x g) one.line one.may.next).0 in
+      begins_by h.scenario l one.node g (state_at i) one.line (locks_at one.node i) own one.may one.leads.agrees cs to way
+
+  -- one choice or one line fewer is left behind a step
+  ends_more : (most : ℕ) → Ends most → Ends (suc most)
+  ends_more most ends i lt [] to way few = ends_here i lt to way
+  ends_more most ends i lt (c ∷ cs) to way few =
+      let g = cursors_at r i in
+      elim (all i lt).steps [
+        | inl each ↦
+            let lines = lines_lead (length h.scenario.programs) l g (entry_by h r i c) way.0 way.1 in
+            from_known most ends way.0 (state_by h r i c) (all_lead h l r i c way.0 each way.1) cs to way.2 (omega (arith, few, lines))
+        | inr one ↦
+            let begins = begins_at i one (c ∷ cs) to way in
+            let x = actor_at one.node in
+            let end = from_known most ends (advanced x g) (state_by h r i one.line.choice) one.leads.known begins.choices begins.end begins.way
+            (omega (arith, few, begins.few, lines_advanced x g)) in
+            record {
+              part = λ whole. end.part (begins.whole whole);
+              place = end.place;
+              there = end.there;
+              further = no_further_on to begins.end (cursors_at r end.place) begins.further end.further;
+            }
+      ]
+
+  -- so each is
+  ends_all : (most : ℕ) → Ends most
+  ends_all zero i lt [] to way few = ends_here i lt to way
+  ends_all zero i lt (c ∷ cs) to way few = absurd (omega (arith, few, lines_few i lt))
+  ends_all (suc most) i lt cs to way few = ends_more most (ends_all most) i lt cs to way few
+
+  -- and each way from the start
+  pub way_outdone : (cs : List Choice) (to : Cursors) → IsWayOf p cs to → IsOutdone l r to
+  way_outdone cs to way =
+      let start : NeedNoMore (cursors_at r 0) at_start = subst (NeedNoMore (cursors_at r 0)) is.start (need_self (cursors_at r 0)) in
+      let known : IsKnown h r at_start h.state = (0, is.some, start, ap (reached h) is.first) in
+      let most = length cs + line_count l in
+      from_known most (ends_all most) at_start h.state known cs to way (omega arith)
 
 -- where no kept cursors are further than those of a path, no other path leads further
 path_furthest : (p : Plan) (r : Reached) (best : ℕ) → IsReached p r → IsFurthestPath r best → (i : ℕ) → i < length r.visited
     → IsNoFurther (cursors_at r i) (cursors_at r best)
 path_furthest p r best is furthest i at = furthest i (omega (arith, at, is.many))
 
--- where each path was followed a way from the start leads where a path leads
-way_known : (p : Plan) (r : Reached) → IsReached p r → ((i : ℕ) → i < length r.visited → IsFollowed p.start p.logs r i)
-    → (ds : List Choice) (end : Cursors) → IsWayOf p ds end
-    → IsKnown p.start r end (play p.start.scenario p.start.state ds)
-way_known p r is all ds end along =
-    let start : NeedNoMore (cursors_at r 0) at_start = subst (NeedNoMore (cursors_at r 0)) is.start (need_self (cursors_at r 0)) in
-    let first : IsKnown p.start r at_start p.start.state = (0, is.some, start, ap (reached p.start) is.first) in
-    stays_known p.start p.logs r all ds at_start end p.start.state first along
-
 -- so no way matches all lines, and none leads further than the path that leads furthest
-pub furthest_way : (p : Plan) (r : Reached) (best : ℕ) → IsReached p r → best < length r.cursors.items → IsFurthestPath r best
+pub furthest_way : (p : Plan) (r : Reached) (best : ℕ) → IsPlan p → IsReached p r → best < length r.cursors.items → IsFurthestPath r best
     → ((i : ℕ) → i < length r.visited → IsFollowed p.start p.logs r i)
     → IsFurthestWay p (path_at r.visited best) (cursors_at r best)
-furthest_way p r best is lt furthest all = record {
+furthest_way p r best plan is lt furthest all = record {
   way = is.ways best (omega (arith, lt, is.many));
-  none = λ ds end along whole.
-      let known = way_known p r is all ds end along in
-      (all known.0 known.1).part (matched_less p.logs (cursors_at r known.0) end known.2 whole);
-  most = λ ds end along.
-      let known = way_known p r is all ds end along in
-      no_further_less (cursors_at r known.0) end (cursors_at r best) known.2 (path_furthest p r best is furthest known.0 known.1);
+  none = λ cs end way. (way_outdone p r plan is all cs end way).part;
+  most = λ cs end way.
+      let out = way_outdone p r plan is all cs end way in
+      no_further_on end (cursors_at r out.place) (cursors_at r best) out.further (path_furthest p r best is furthest out.place out.there);
 }
 
 -- ---- paths are added
@@ -127,12 +224,55 @@ tried_on h l r new i c e lt tried =
     → IsKnown h new (with_missing x (cursors_at r i)) (step h.scenario c (reached h path)).after) (sym (e.paths.same i lt))
     (λ gap. known_on h r new _ _ e (tried gap)))
 
+-- where a line agrees with what comes of its choice and a path leads where that does, it leads on
+pub leads_by : (h : History) (r new : Reached) (i : ℕ) (x : Actor) (line : LogLine) (came : Entry) (to : Cursors) → Extends r new → i < length r.visited
+    → came ≡ entry_by h r i line.choice → Agrees line came → to ≡ advanced x (cursors_at r i) → IsKnown h new to (state_by h r i line.choice)
+    → LeadsOn h new i x line
+leads_by h r new i x line came to e lt same agrees there known = record {
+  agrees =
+      subst (λ (path : List Choice). Agrees line (entry_at h.scenario (reached h path) line.choice)) (sym (e.paths.same i lt))
+      (subst (Agrees line) same agrees);
+  known =
+      subst (λ (g : Cursors). IsKnown h new (advanced x g) (state_by h new i line.choice)) (sym (e.cursors i lt))
+      (subst (λ (path : List Choice). IsKnown h new (advanced x (cursors_at r i)) (step h.scenario line.choice (reached h path)).after)
+      (sym (e.paths.same i lt)) (subst (λ (f : Cursors). IsKnown h new f (state_by h r i line.choice)) there known));
+}
+
+-- a line that does not agree with what came of its choice does not agree with what comes of it
+pub unfit_by : (h : History) (r : Reached) (i : ℕ) (line : LogLine) (came : Entry) → came ≡ entry_by h r i line.choice → (Agrees line came → ⊥)
+    → Agrees line (entry_by h r i line.choice) → ⊥
+unfit_by h r i line came same unfit = λ agrees. unfit (subst (Agrees line) (sym same) agrees)
+
+-- a line that leads on still does
+leads_on : (h : History) (r new : Reached) (i : ℕ) (x : Actor) (line : LogLine) → Extends r new → i < length r.visited → LeadsOn h r i x line
+    → LeadsOn h new i x line
+leads_on h r new i x line e lt leads =
+    leads_by h r new i x line (entry_by h r i line.choice) (advanced x (cursors_at r i)) e lt refl leads.agrees refl (known_on h r new _ _ e leads.known)
+
+-- where all steps were followed they still are
+all_on : (h : History) (l : Logs) (r new : Reached) (i : ℕ) → Extends r new → i < length r.visited → FollowsAll h l r i → FollowsAll h l new i
+all_on h l r new i e lt is = record {
+  tried = λ c named. tried_on h l r new i c e lt (is.tried c named);
+  met = λ x. met_on h l r new i x e lt (is.met x);
+}
+
+-- where a line was followed alone it still is
+alone_on : (h : History) (l : Logs) (r new : Reached) (i : ℕ) → Extends r new → i < length r.visited → FollowsAlone h l r i → FollowsAlone h l new i
+alone_on h l r new i e lt is = record {
+  node = is.node;
+  line = is.line;
+  may = subst (λ (g : Cursors). MayBeAlone is.node l g is.line) (sym (e.cursors i lt)) is.may;
+  leads = leads_on h r new i (actor_at is.node) is.line e lt is.leads;
+}
+
 -- a path that was followed still is
 pub followed_on : (h : History) (l : Logs) (r new : Reached) (i : ℕ) → Extends r new → i < length r.visited → IsFollowed h l r i → IsFollowed h l new i
 followed_on h l r new i e lt is = record {
   part = λ end. is.part (subst (AreMatched l) (e.cursors i lt) end);
-  tried = λ c named. tried_on h l r new i c e lt (is.tried c named);
-  met = λ x. met_on h l r new i x e lt (is.met x);
+  steps = elim is.steps [
+    | inl each ↦ inl (all_on h l r new i e lt each)
+    | inr one ↦ inr (alone_on h l r new i e lt one)
+  ];
 }
 
 -- ---- cursors have room

@@ -1,5 +1,5 @@
 -- Choices that go along the logs.
-use Rattle.std.proofs.Common.{◌≡◌, ◌∙◌, ℕ, ◌+◌, ◌<◌, ◌≤◌, inl, inr, List, [], ◌∷◌, ◌++◌, length, refl, sym, ap, subst, arith, true, take, get_or}
+use Rattle.std.proofs.Common.{◌≡◌, ◌∙◌, ℕ, ◌+◌, ◌<◌, ◌≤◌, inl, inr, List, [], ◌∷◌, ◌++◌, length, refl, sym, subst, arith, true, take, slice_get, Some}
 use Rattle.std.specs.Prelude.{sum}
 use Rattle.std.proofs.lemmas.Option.{slice_get_within}
 use Rattle.std.proofs.lemmas.Bool.{cases_lt}
@@ -16,10 +16,10 @@ use Rattle.zy_logs.specs.declared.log_line.LogLine.{LogLine}
 use Rattle.zy_order.specs.declared.logs.Logs.{Logs}
 use Rattle.zy_order.specs.declared.cursors.Cursor.{Cursor}
 use Rattle.zy_order.specs.declared.cursors.Cursors.{Cursors}
-use Rattle.zy_order.specs.Gaps.{gaps_of, gap_count}
+use Rattle.zy_order.specs.Gaps.{gaps_of}
 use Rattle.zy_order.specs.Orders.{entry_at}
-use Rattle.zy_order.specs.Ways.{log_of, cursor_of, cursor, at_start, gap_at, passed, filled, advanced, with_missing, line_count, step_count}
-use Rattle.zy_order.specs.Ways.{AreMatched, IsIn, IsWithin, HasNext, HasGap, MayBeMissing, Leads, IsWay, AreLinesOf}
+use Rattle.zy_order.specs.Ways.{log_of, cursor, at_start, gap_at, passed, filled, advanced, with_missing, step_count}
+use Rattle.zy_order.specs.Ways.{AreMatched, IsIn, IsWithin, HasNext, HasGap, Leads, IsWay, AreLinesOf}
 
 -- ---- in one log
 
@@ -157,6 +157,15 @@ possible_fewer l g many w part =
                 ]
           ]
     ]
+
+-- a line that fits where an actor is is its next one
+pub same_line : (l : Logs) (g : Cursors) (e : Entry) (x : Actor) (line : LogLine) → actor_of e.choice ≡ x
+    → slice_get (log_of x l) (cursor x g) ≡ Some line → (fits : HasNext l g e) → line ≡ fits.line
+same_line l g e x line own next fits =
+    let here : slice_get (log_of x l) (cursor x g) ≡ Some fits.line =
+    subst (λ (y : Actor). slice_get (log_of y l) (cursor y g) ≡ Some fits.line) own fits.next in
+    let both : Some line ≡ Some fits.line = sym next ∙ here in
+    cc both
 
 -- a log has no more lines than all have room for steps
 pub log_few : (x : Actor) (l : Logs) → length (log_of x l) ≤ step_count l

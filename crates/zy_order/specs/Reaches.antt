@@ -1,14 +1,21 @@
 -- What a search keeps, and what each of its parts adds.
-use Rattle.std.specs.Prelude.{ℕ, ◌≡◌, ◌≤◌, ◌<◌, ◌+◌, ◌^◌, ◌⊎◌, ◌++◌, List, [], ◌∷◌, Option, None, Some, true, length}
+use Rattle.std.specs.Prelude.{ℕ, ◌≡◌, ◌≤◌, ◌<◌, ◌+◌, ◌^◌, ◌⊎◌, ◌++◌, List, [], ◌∷◌, Option, None, Some, Bool, true, false, length}
 use Rattle.std.specs.Prelude.{Contains}
+use Rattle.std.specs.Prelude.{slice_get}
 use Rattle.zy_isa.specs.Limits.{max_choices}
 use Rattle.zy_isa.specs.declared.node.Actor.{Actor}
+use Rattle.zy_isa.specs.declared.node.Node.{Node}
 use Rattle.zy_isa.specs.declared.choice.Choice.{Choice}
-use Rattle.zy_isa.specs.Choices.{actor_of, names_below}
+use Rattle.zy_isa.specs.declared.choice.Choice.TheVariants.{Run}
+use Rattle.zy_isa.specs.Choices.{actor_of, actor_at, names_below}
 use Rattle.zy_table.specs.declared.entry.Entry.{Entry}
 use Rattle.zy_table.specs.State.{State}
 use Rattle.zy_table.specs.Play.{step}
-use Rattle.zy_machine.specs.Histories.{History}
+use Rattle.zy_machine.specs.Histories.{History, IsReplay}
+use Rattle.zy_logs.specs.Agrees.{Agrees}
+use Rattle.zy_logs.specs.declared.told.Told.{Told}
+use Rattle.zy_logs.specs.declared.told.Told.TheVariants as told
+use Rattle.zy_logs.specs.declared.log_line.LogLine.{LogLine}
 use Rattle.zy_search.specs.declared.kinds.ChoiceKinds.{ChoiceKinds}
 use Rattle.zy_search.specs.Choices.{considered}
 use Rattle.zy_search.specs.Searches.{reached}
@@ -24,9 +31,11 @@ use Rattle.zy_order.specs.declared.answer.OrderAnswer.{OrderAnswer}
 use Rattle.zy_order.specs.declared.answer.OrderAnswer.TheVariants as answer
 use Rattle.zy_order.specs.declared.follow.Followed.{Followed}
 use Rattle.zy_order.specs.declared.follow.Followed.TheVariants as followed
+use Rattle.zy_order.specs.declared.line.Met.{Met}
+use Rattle.zy_order.specs.declared.line.Met.TheVariants as met
 use Rattle.zy_order.specs.Orders.{entry_at}
 use Rattle.zy_order.specs.Gaps.{gaps_of}
-use Rattle.zy_order.specs.Ways.{log_of, at_start, cursors_in, advanced, with_missing, step_count}
+use Rattle.zy_order.specs.Ways.{log_of, cursor, at_start, cursors_in, advanced, with_missing, step_count}
 use Rattle.zy_order.specs.Ways.{IsNoFurther, NeedNoMore, AreMatched, HasNext, HasGap, Leads, IsWay, AreLinesOf}
 
 -- ---- what a search goes by
@@ -35,9 +44,10 @@ use Rattle.zy_order.specs.Ways.{IsNoFurther, NeedNoMore, AreMatched, HasNext, Ha
 abbrev pub all_kinds : ChoiceKinds
 all_kinds = record { start = true; begin = true; kill = true; run = true; take = true; finish = true; push = true }
 
--- the logs have lines of their actors, a gap before each and one behind the last, the history has room for all steps, and
--- the choices are all that a scenario has
+-- the start is a machine's, the logs have lines of their actors, a gap before each and one behind the last, the history has
+-- room for all steps, and the choices are all that a scenario has
 pub record IsPlan (p : Plan) : Type 0 where
+  pub replay : IsReplay p.start
   pub lines : (x : Actor) → AreLinesOf (length p.start.scenario.programs) x (log_of x p.logs)
   pub gaps : (x : Actor) → length (gaps_of x p.logs.gaps) ≡ length (log_of x p.logs) + 1
   pub room : length p.start.entries + step_count p.logs ≤ max_choices
@@ -120,12 +130,62 @@ AreTried h logs r i = (c : Choice) → names_below (length h.scenario.programs) 
 abbrev pub AreMet : History → Logs → Reached → ℕ → Type 0
 AreMet h logs r i = (x : Actor) → IsMet h logs r i x
 
--- the path at a place was followed: it does not match all lines, the next line of each actor is met, and each choice is
--- tried as that of a missing step
-pub record IsFollowed (h : History) (logs : Logs) (r : Reached) (i : ℕ) : Type 0 where
-  pub part : AreMatched logs (cursors_at r i) → ⊥
+-- where the path at a place leads, each choice is tried as that of a missing step, and the next line of each actor is met
+pub record FollowsAll (h : History) (logs : Logs) (r : Reached) (i : ℕ) : Type 0 where
   pub tried : AreTried h logs r i
   pub met : AreMet h logs r i
+
+-- a line tells of a `run` that did
+pub record TellsDid (line : LogLine) : Type 0 where
+  pub node : Node
+  pub txn : ℕ
+  pub run : line.choice ≡ Run node txn
+  pub did : line.told ≡ Some told.Did
+
+-- what is told is an outcome of which nothing comes
+abbrev pub is_nothing : Told → Bool
+is_nothing told.BadMode = true
+is_nothing told.Idle = true
+is_nothing told.Elsewhere = true
+is_nothing told.NotYet = true
+is_nothing (told.Waits page) = true
+is_nothing (told.Awaits page) = true
+is_nothing told.NoMessage = true
+is_nothing (told.Held page) = true
+is_nothing told.Stray = true
+is_nothing (told.Active txn) = true
+is_nothing told.NoPush = true
+is_nothing t = false
+
+-- a line tells that nothing came of its choice
+pub record TellsNothing (line : LogLine) : Type 0 where
+  pub what : Told
+  pub told : line.told ≡ Some what
+  pub nothing : is_nothing what ≡ true
+
+-- the next line of a node may be followed alone: it tells of a `run` that did, or that nothing came, and no step may be missing
+-- before it
+pub record MayBeAlone (n : Node) (logs : Logs) (cursors : Cursors) (line : LogLine) : Type 0 where
+  pub next : slice_get (log_of (actor_at n) logs) (cursor (actor_at n) cursors) ≡ Some line
+  pub tells : TellsDid line ⊎ TellsNothing line
+  pub whole : HasGap (actor_at n) logs cursors → ⊥
+
+-- where the path at a place leads, a line of an actor agrees with what comes of its choice, and a path leads where that does
+pub record LeadsOn (h : History) (r : Reached) (i : ℕ) (x : Actor) (line : LogLine) : Type 0 where
+  pub agrees : Agrees line (entry_by h r i line.choice)
+  pub known : IsKnown h r (advanced x (cursors_at r i)) (state_by h r i line.choice)
+
+-- where the path at a place leads, a next line that may be followed alone leads on
+pub record FollowsAlone (h : History) (logs : Logs) (r : Reached) (i : ℕ) : Type 0 where
+  pub node : Node
+  pub line : LogLine
+  pub may : MayBeAlone node logs (cursors_at r i) line
+  pub leads : LeadsOn h r i (actor_at node) line
+
+-- the path at a place was followed: it does not match all lines, and all steps were followed, or one line alone
+pub record IsFollowed (h : History) (logs : Logs) (r : Reached) (i : ℕ) : Type 0 where
+  pub part : AreMatched logs (cursors_at r i) → ⊥
+  pub steps : FollowsAll h logs r i ⊎ FollowsAlone h logs r i
 
 -- each path but those that are to do was followed
 abbrev pub AreFollowedBut : History → Logs → Reached → List ℕ → Type 0
@@ -147,6 +207,12 @@ pub record IsNext (h : History) (r : Reached) (at : ℕ) (c : Choice) (m : Histo
   pub scenario : m.scenario ≡ h.scenario
   pub state : m.state ≡ state_by h r at c
   pub longer : length h.entries + length_at r.visited at < length m.entries
+
+-- what came of a line of an actor where the path at a place leads
+abbrev pub IsMetBy : History → Reached → ℕ → Actor → LogLine → Met → Type 0
+IsMetBy h r i x line met.Unfit = Agrees line (entry_by h r i line.choice) → ⊥
+IsMetBy h r i x line met.Known = LeadsOn h r i x line
+IsMetBy h r i x line met.Spent = Unit {0}
 
 -- a branch goes on from a path to cursors, and a machine has made its choice
 pub record GoesOn (p : Plan) (r : Reached) (b : Branch) (to : Cursors) (m : History) : Type 0 where

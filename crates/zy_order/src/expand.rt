@@ -3,22 +3,21 @@ ghost use Rattle.std.specs.Prelude.{◌≡◌, ◌<◌, IfOk, OnOk, true, length
 ghost use Rattle.zy_isa.specs.Limits.{max_choices};
 ghost use Rattle.zy_search.specs.Visits.{IsHere, IsShelf};
 ghost use Rattle.zy_order.specs.Ways.{AreMatched};
-ghost use Rattle.zy_order.specs.Reaches.{cursors_at, IsMet, AreMet, IsFollowed, IsUnderWay, Adds};
+ghost use Rattle.zy_order.specs.Reaches.{cursors_at, IsMet, AreMet, FollowsAll, IsFollowed, IsUnderWay, Adds};
 
-use crate::attempt::attempt;
+use crate::alone::follow_alone;
+use crate::line::{Met, meet_line};
 use crate::missing::try_each;
-use crate::note::note;
 use crate::plan::Plan;
 use crate::reached::Reached;
 use crate::turns::turns_by;
 use crate::walk::go_to;
 use zy_isa::{Actor, MAX_CHOICES};
 use zy_machine::{Fault, Machine};
-use zy_search::branch::Branch;
 use zy_search::shelf::Shelf;
 
-/// Makes the choice of an actor's next line from the state of a machine where the path at a place leads, and keeps
-/// where it leads if the line agrees with what comes of it. It answers no where there is no room for that.
+/// Meets the next line of an actor where the path at a place leads. It answers no where there is no room for what it
+/// leads to.
 fn meet(
     plan: &Plan,
     reached: &mut Reached,
@@ -38,27 +37,14 @@ fn meet(
     ensures met { IfOk result (λ b. b ≡ true → IsMet plan.now.start plan.now.logs reached.new at actor) }
     ensures twin { OnOk result (twin.new.scenario ≡ plan.now.start.scenario) }
 {
-    let cursors = reached.cursors_at(at);
-    let Some(line) = plan.logs.next(cursors, actor) else {
+    let Some(line) = plan.logs.next(reached.cursors_at(at), actor) else {
         return Ok(true);
     };
-    let entry = attempt(plan.alloc, here, twin, line.choice)?;
-    if !line.agrees(&entry) {
-        return Ok(true);
+    match meet_line(plan, reached, shelf, at, actor, &line, here, twin)? {
+        Met::Unfit => Ok(true),
+        Met::Known => Ok(true),
+        Met::Spent => Ok(false),
     }
-    let branch = Branch {
-        from: at,
-        by: line.choice,
-    };
-    note(
-        plan,
-        reached,
-        shelf,
-        branch,
-        cursors.advanced(actor),
-        here,
-        twin,
-    )
 }
 
 /// The same of each actor's next line.
@@ -116,6 +102,31 @@ fn arrive(
 /// Makes each choice that may be that of a missing step, and then that of each actor's next line, from where the path at a
 /// place leads. It answers no where there is no room for what one of them leads to. What the lines lead to is followed
 /// first.
+fn follow_each(
+    plan: &Plan,
+    reached: &mut Reached,
+    shelf: &mut Shelf,
+    at: u32,
+    here: &Machine,
+    twin: &mut Machine,
+) -> Result<bool, Fault>
+    requires at { at < length reached.old.visited }
+    requires under_way { IsUnderWay plan.now reached.old }
+    requires shelf { IsShelf plan.now.start reached.old.visited shelf.old }
+    requires here { IsHere plan.now.start reached.old.visited at here.now }
+    requires room { length here.now.entries < max_choices }
+    requires twin { twin.old.scenario ≡ plan.now.start.scenario }
+    ensures adds { OnOk result (Adds plan.now reached.old reached.new shelf.new) }
+    ensures followed { IfOk result (λ b. b ≡ true → FollowsAll plan.now.start plan.now.logs reached.new at) }
+    ensures twin { OnOk result (twin.new.scenario ≡ plan.now.start.scenario) }
+{
+    if !try_each(plan, reached, shelf, at, here, twin)? {
+        return Ok(false);
+    }
+    meet_each(plan, reached, shelf, at, here, twin)
+}
+
+/// Follows the steps that go on from where the path at a place leads: one line alone, if that may be, and else all of them. It answers no where there is no room for what one of them leads to.
 pub(crate) fn expand(
     plan: &Plan,
     reached: &mut Reached,
@@ -136,8 +147,9 @@ pub(crate) fn expand(
     ensures twin { OnOk result (twin.new.scenario ≡ plan.now.start.scenario) }
 {
     arrive(plan, reached, shelf, at, here)?;
-    if !try_each(plan, reached, shelf, at, here, twin)? {
-        return Ok(false);
+    match follow_alone(plan, reached, shelf, at, here, twin)? {
+        Met::Known => Ok(true),
+        Met::Spent => Ok(false),
+        Met::Unfit => follow_each(plan, reached, shelf, at, here, twin),
     }
-    meet_each(plan, reached, shelf, at, here, twin)
 }

@@ -1,12 +1,14 @@
 //! A search for an order of the lines of three logs, one for each actor, in which each line agrees with the step table.
 #![tactic(auto)]
 
+mod alone;
 pub mod answer;
 mod attempt;
 mod cursors;
 mod expand;
 mod follow;
 pub mod gaps;
+mod line;
 mod logs;
 mod missing;
 mod note;

@@ -1,5 +1,6 @@
 //! The search for an order.
 ghost use Rattle.std.specs.Prelude.{◌≡◌, ◌<◌, ◌^◌, IfOk, length};
+ghost use Rattle.zy_machine.specs.Histories.{IsReplay};
 ghost use Rattle.zy_search.specs.Choices.{considered};
 ghost use Rattle.zy_order.specs.Reaches as spec;
 ghost use Rattle.zy_order.specs.Answers.{IsInput, IsAnswer};
@@ -128,7 +129,8 @@ fn all_kinds() -> ChoiceKinds
 
 /// All choices of a machine's scenario.
 fn all_choices(alloc: Global, start: &Machine) -> Result<Vec<Choice>, AllocError>
-    ensures { IfOk result (λ v. v.items ≡ considered spec.all_kinds (length start.now.scenario.programs)) }
+    ensures choices { IfOk result (λ v. v.items ≡ considered spec.all_kinds (length start.now.scenario.programs)) }
+    ensures replay { IsReplay start.now }
 {
     let programs = start.scenario().programs();
     considered(alloc, all_kinds(), programs.len() as u8)

@@ -1,30 +1,38 @@
--- Each missing step is tried, and then each next line is met.
-use Rattle.std.proofs.Common.{◌≡◌, ◌<◌, Bool, true, length, arith}
+-- A run that did is followed alone, or all steps are.
+use Rattle.std.proofs.Common.{◌≡◌, Bool, true, inl, inr}
 use Rattle.std.proofs.lemmas.Result.{on_ok_weaker}
-use Rattle.zy_order.specs.Reaches.{Adds, AreMet, IsFollowed}
+use Rattle.zy_order.specs.Reaches.{Adds, FollowsAll, IsFollowed}
 use Rattle.zy_order.proofs.PushLemmas.{adds_on}
-use Rattle.zy_order.proofs.ReachLemmas.{tried_on}
+use Rattle.zy_order.proofs.ReachLemmas.{extends_on}
 use Rattle.zy_order.proofs.LoopLemmas.{if_ok, is_followed}
 use Rattle.zy_order.proofs.expand.expand.Goals as goal
 
-pub returns-clause-adds : goal.returns-clause-adds
-returns-clause-adds c =
+pub returns-in-Known-clause-followed : goal.returns-in-Known-clause-followed
+returns-in-Known-clause-followed c = λ _.
     let p = c.args.plan.now in
-    on_ok_weaker {P = Adds p c.try_each.new.reached c.meet_each.new.reached c.meet_each.new.shelf}
-    {Q = Adds p c.args.reached.now c.meet_each.new.reached c.meet_each.new.shelf} c.meet_each.result
-    (λ more. adds_on p c.args.reached.now c.try_each.new.reached c.meet_each.new.reached c.try_each.new.shelf c.meet_each.new.shelf
-    c.in_ok-try_each.ensures.adds more) c.meet_each.ensures.adds
+    let old = c.args.reached.now in
+    let new = c.follow_alone.new.reached in
+    is_followed p.start p.logs old new c.args.at c.requires.at c.in_ok-follow_alone.ensures.adds.extends c.requires.part
+    (inr (c.in_ok-follow_alone.ensures.alone c.in-Known.is))
 
-pub returns-clause-followed : goal.returns-clause-followed
-returns-clause-followed c =
+pub returns-in-Unfit-clause-adds : goal.returns-in-Unfit-clause-adds
+returns-in-Unfit-clause-adds c =
+    let p = c.args.plan.now in
+    on_ok_weaker {P = Adds p c.follow_alone.new.reached c.follow_each.new.reached c.follow_each.new.shelf}
+    {Q = Adds p c.args.reached.now c.follow_each.new.reached c.follow_each.new.shelf} c.follow_each.result
+    (λ more. adds_on p c.args.reached.now c.follow_alone.new.reached c.follow_each.new.reached c.follow_alone.new.shelf c.follow_each.new.shelf
+    c.in_ok-follow_alone.ensures.adds more) c.follow_each.ensures.adds
+
+pub returns-in-Unfit-clause-followed : goal.returns-in-Unfit-clause-followed
+returns-in-Unfit-clause-followed c =
     let p = c.args.plan.now in
     let h = p.start in
     let at = c.args.at in
     let old = c.args.reached.now in
-    let tried = c.try_each.new.reached in
-    let new = c.meet_each.new.reached in
-    let x = c.in_ok-try_each.ensures.adds in
-    if_ok (Adds p tried new c.meet_each.new.shelf) (λ (b : Bool). b ≡ true → AreMet h p.logs new at)
-    (λ (b : Bool). b ≡ true → IsFollowed h p.logs new at) c.meet_each.result
-    (λ b y met e. is_followed h p.logs old tried new at c.requires.at x.extends y.extends c.requires.part
-    (c.in_ok-try_each.ensures.tried c.if-not-branch.false) (met e)) c.meet_each.ensures.adds c.meet_each.ensures.met
+    let mid = c.follow_alone.new.reached in
+    let new = c.follow_each.new.reached in
+    let x = c.in_ok-follow_alone.ensures.adds in
+    if_ok (Adds p mid new c.follow_each.new.shelf) (λ (b : Bool). b ≡ true → FollowsAll h p.logs new at)
+    (λ (b : Bool). b ≡ true → IsFollowed h p.logs new at) c.follow_each.result
+    (λ b y all e. is_followed h p.logs old new at c.requires.at (extends_on old mid new x.extends y.extends) c.requires.part (inl (all e)))
+    c.follow_each.ensures.adds c.follow_each.ensures.followed

@@ -1,5 +1,5 @@
 -- The choice changes nothing, or where it leads is known; or it may not be that of a missing step.
-use Rattle.std.proofs.Common.{◌≡◌, ◌∙◌, Bool, true, ap, subst}
+use Rattle.std.proofs.Common.{◌≡◌, ◌∙◌, Bool, true, ap}
 use Rattle.zy_isa.specs.declared.node.Actor.{Actor}
 use Rattle.zy_isa.specs.Choices.{actor_of}
 use Rattle.zy_order.specs.Ways.{with_missing}

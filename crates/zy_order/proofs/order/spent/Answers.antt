@@ -1,5 +1,5 @@
 -- The path is a way.
-use Rattle.std.proofs.Common.{◌<◌, length, arith}
+use Rattle.std.proofs.Common.{arith}
 use Rattle.zy_order.specs.Reaches.{cursors_at}
 use Rattle.zy_order.proofs.order.spent.Goals as goal
 

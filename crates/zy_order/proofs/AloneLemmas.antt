@@ -1,0 +1,401 @@
+-- A line that may be followed alone may be made before the steps of others: what comes of a way that begins by it.
+use Rattle.std.proofs.Common.{true, ◌≡◌, ◌∙◌, ℕ, ◌+◌, ◌<◌, ◌≤◌, ◌⊎◌, inl, inr, List, [], ◌∷◌, ◌++◌, length, refl, sym, ap, subst, arith, drop, length-append, slice_get, Some, Option}
+use Rattle.std.specs.Prelude.{IfSome}
+use Rattle.std.proofs.lemmas.Option.{slice_get_within}
+use Rattle.zy_isa.specs.declared.node.Node.{Node}
+use Rattle.zy_isa.specs.declared.node.Node.TheVariants as node
+use Rattle.zy_isa.specs.declared.node.Actor.{Actor}
+use Rattle.zy_isa.specs.declared.node.Actor.TheVariants.{C, A, B}
+use Rattle.zy_isa.specs.declared.choice.Choice.{Choice}
+use Rattle.zy_isa.specs.declared.choice.Choice.TheVariants.{Run}
+use Rattle.zy_isa.specs.Choices.{actor_of, actor_at}
+use Rattle.zy_isa.specs.Scenario.{Scenario}
+use Rattle.zy_model.specs.Order.{LocksRise}
+use Rattle.zy_table.specs.declared.entry.Entry.{Entry}
+use Rattle.zy_table.specs.declared.outcome.Outcome.{Outcome}
+use Rattle.zy_table.specs.declared.outcome.Outcome.TheVariants.{Did}
+use Rattle.zy_table.specs.State.{State, facing}
+use Rattle.zy_table.specs.Play.{play, step, entries}
+use Rattle.zy_laws.proofs.walk.PlayPush.{play-push}
+use Rattle.zy_logs.specs.Agrees.{Agrees, Tells}
+use Rattle.zy_logs.specs.declared.told.Told.{Told}
+use Rattle.zy_logs.specs.declared.told.Told.TheVariants as told
+use Rattle.zy_logs.specs.declared.log_line.LogLine.{LogLine}
+use Rattle.zy_commute.specs.Commute.{Does, AreOfOthers}
+use Rattle.zy_commute.proofs.Commuting.{may_come_first, unseen}
+use Rattle.zy_order.specs.declared.logs.Logs.{Logs}
+use Rattle.zy_order.specs.declared.cursors.Cursor.{Cursor}
+use Rattle.zy_order.specs.declared.cursors.Cursors.{Cursors}
+use Rattle.zy_order.specs.Gaps.{gaps_of}
+use Rattle.zy_order.specs.Orders.{entry_at}
+use Rattle.zy_search.specs.Stuck.{is_still}
+use Rattle.zy_search.proofs.StillSteps.{still_stays}
+use Rattle.zy_order.specs.Ways.{log_of, cursor_of, cursor, gap_at, advanced, with_missing}
+use Rattle.zy_order.specs.Ways.{IsNoFurther, AreMatched, HasGap, Leads, IsWay}
+use Rattle.zy_order.specs.Reaches.{is_nothing, TellsDid, TellsNothing, MayBeAlone}
+use Rattle.zy_order.proofs.NeedLemmas.{no_further_self}
+use Rattle.zy_order.proofs.WayLemmas.{same_line}
+
+-- ---- two actors
+
+-- an actor's cursor is where it was behind a line of another
+beside_advanced : (x y : Actor) (g : Cursors) → (y ≡ x → ⊥) → cursor_of y (advanced x g) ≡ cursor_of y g
+beside_advanced C C g far = absurd (far refl)
+beside_advanced C A g far = refl
+beside_advanced C B g far = refl
+beside_advanced A C g far = refl
+beside_advanced A A g far = absurd (far refl)
+beside_advanced A B g far = refl
+beside_advanced B C g far = refl
+beside_advanced B A g far = refl
+beside_advanced B B g far = absurd (far refl)
+
+-- and behind a missing step of another
+beside_missing : (x y : Actor) (g : Cursors) → (y ≡ x → ⊥) → cursor_of y (with_missing x g) ≡ cursor_of y g
+beside_missing C C g far = absurd (far refl)
+beside_missing C A g far = refl
+beside_missing C B g far = refl
+beside_missing A C g far = refl
+beside_missing A A g far = absurd (far refl)
+beside_missing A B g far = refl
+beside_missing B C g far = refl
+beside_missing B A g far = refl
+beside_missing B B g far = absurd (far refl)
+
+-- a line may be matched before that of another actor
+advanced_swap : (x y : Actor) (g : Cursors) → advanced x (advanced y g) ≡ advanced y (advanced x g)
+advanced_swap C C g = refl
+advanced_swap C A g = refl
+advanced_swap C B g = refl
+advanced_swap A C g = refl
+advanced_swap A A g = refl
+advanced_swap A B g = refl
+advanced_swap B C g = refl
+advanced_swap B A g = refl
+advanced_swap B B g = refl
+
+-- and before a missing step of another actor
+missing_swap : (x y : Actor) (g : Cursors) → (y ≡ x → ⊥) → advanced x (with_missing y g) ≡ with_missing y (advanced x g)
+missing_swap C C g far = absurd (far refl)
+missing_swap C A g far = refl
+missing_swap C B g far = refl
+missing_swap A C g far = refl
+missing_swap A A g far = absurd (far refl)
+missing_swap A B g far = refl
+missing_swap B C g far = refl
+missing_swap B A g far = refl
+missing_swap B B g far = absurd (far refl)
+
+-- actors are the same, or are not
+same_or_not : (x y : Actor) → (x ≡ y) ⊎ (x ≡ y → ⊥)
+same_or_not C C = inl refl
+same_or_not C A = inr (λ e. cc e)
+same_or_not C B = inr (λ e. cc e)
+same_or_not A C = inr (λ e. cc e)
+same_or_not A A = inl refl
+same_or_not A B = inr (λ e. cc e)
+same_or_not B C = inr (λ e. cc e)
+same_or_not B A = inr (λ e. cc e)
+same_or_not B B = inl refl
+
+-- ---- the steps of other actors
+
+module _ (count : ℕ) (l : Logs) (x : Actor) (g : Cursors) (e : Entry) (to : Cursors) (far : actor_of e.choice ≡ x → ⊥) (leads : Leads count l g e to) where
+  -- where such a step leads on, it leads on behind a line of x
+  leads_beside : Leads count l (advanced x g) e (advanced x to)
+  leads_beside =
+      let y = actor_of e.choice in
+      let same = beside_advanced x y g far in
+      elim leads [
+        | inl by ↦ inl (
+          record {
+            line = by.0.line;
+            next = ap (λ (k : Cursor). slice_get (log_of y l) k.lines) same ∙ by.0.next;
+            choice = by.0.choice;
+            agrees = by.0.agrees;
+          },
+          ap (advanced x) by.1 ∙ advanced_swap x y g,
+        )
+        | inr by ↦ inr (
+          record { named = by.0.named; gap = subst (λ (k : Cursor). k.missing < gap_at (gaps_of y l.gaps) k) (sym same) by.0.gap },
+          ap (advanced x) by.1 ∙ missing_swap x y g far,
+        )
+      ]
+
+  -- the cursor of x is where it was
+  leads_stays : cursor_of x to ≡ cursor_of x g
+  leads_stays =
+      let y = actor_of e.choice in
+      let other : x ≡ y → ⊥ = λ same. far (sym same) in
+      elim leads [
+        | inl by ↦ ap (cursor_of x) by.1 ∙ beside_advanced y x g other
+        | inr by ↦ ap (cursor_of x) by.1 ∙ beside_missing y x g other
+      ]
+
+-- where a way of other actors leads on, it leads on behind a line of node n, from a state in which the same comes of it
+way_beside : (sc : Scenario) (l : Logs) (n : Node) (g : Cursors) (s r : State) (cs : List Choice) (to : Cursors) → AreOfOthers n cs
+    → entries sc r cs ≡ entries sc s cs → IsWay sc l g s cs to → IsWay sc l (advanced (actor_at n) g) r cs (advanced (actor_at n) to)
+way_beside sc l n g s r [] to far same way = ap (advanced (actor_at n)) way
+way_beside sc l n g s r (c ∷ cs) to far same way =
+    let count = length sc.programs in
+    let x = actor_at n in
+    let first : entry_at sc r c ≡ entry_at sc s c = cc same in
+    let rest : entries sc (step sc c r).after cs ≡ entries sc (step sc c s).after cs = ap (drop 1) same in (
+      advanced x way.0,
+      subst (λ (e : Entry). Leads count l (advanced x g) e (advanced x way.0)) (sym first) (leads_beside count l x g (entry_at sc s c) way.0 far.0 way.1),
+      way_beside sc l n way.0 (step sc c s).after (step sc c r).after cs to far.1 rest way.2,
+    )
+
+-- the cursor of the node is where it was
+way_stays : (sc : Scenario) (l : Logs) (n : Node) (g : Cursors) (s : State) (cs : List Choice) (to : Cursors) → AreOfOthers n cs → IsWay sc l g s cs to
+    → cursor_of (actor_at n) to ≡ cursor_of (actor_at n) g
+way_stays sc l n g s [] to far way = ap (cursor_of (actor_at n)) (sym way)
+way_stays sc l n g s (c ∷ cs) to far way =
+    way_stays sc l n way.0 (step sc c s).after cs to far.1 way.2
+    ∙ leads_stays (length sc.programs) l (actor_at n) g (entry_at sc s c) way.0 far.0 way.1
+
+-- a way, and then another
+way_append : (sc : Scenario) (l : Logs) (g : Cursors) (s : State) (cs ds : List Choice) (there to : Cursors) → IsWay sc l g s cs there
+    → IsWay sc l there (play sc s cs) ds to → IsWay sc l g s (cs ++ ds) to
+way_append sc l g s [] ds there to way rest = subst (λ (f : Cursors). IsWay sc l f s ds to) (sym way) rest
+way_append sc l g s (c ∷ cs) ds there to way rest = (way.0, way.1, way_append sc l way.0 (step sc c s).after cs ds there to way.2 rest)
+
+-- ---- the first step of a node
+
+-- where a way first has a choice of node n: the choices before it, it, and those behind it
+record HasOwn (sc : Scenario) (l : Logs) (n : Node) (g : Cursors) (s : State) (cs : List Choice) (to : Cursors) : Type 0 where
+  pub before : List Choice
+  pub own : Choice
+  pub rest : List Choice
+  pub there : Cursors
+  pub next : Cursors
+  pub many : length cs ≡ length before + (length rest + 1)
+  pub others : AreOfOthers n before
+  pub is : actor_of own ≡ actor_at n
+  pub way : IsWay sc l g s before there
+  pub leads : Leads (length sc.programs) l there (entry_at sc (play sc s before) own) next
+  pub goes_on : IsWay sc l next (step sc own (play sc s before)).after rest to
+
+-- a way is of others, or has one
+first_own : (sc : Scenario) (l : Logs) (n : Node) (g : Cursors) (s : State) (cs : List Choice) (to : Cursors) → IsWay sc l g s cs to
+    → AreOfOthers n cs ⊎ HasOwn sc l n g s cs to
+first_own sc l n g s [] to way = inl tt
+first_own sc l n g s (c ∷ cs) to way = elim (same_or_not (actor_of c) (actor_at n)) [
+  | inl own ↦ inr (record {
+    before = [];
+    own = c;
+    rest = cs;
+    there = g;
+    next = way.0;
+    many = omega arith;
+    others = tt;
+    is = own;
+    way = refl;
+    leads = way.1;
+    goes_on = way.2;
+  })
+  | inr far ↦ elim (first_own sc l n way.0 (step sc c s).after cs to way.2) [
+    | inl others ↦ inl (far, others)
+    | inr has ↦ inr (record {
+      before = c ∷ has.before;
+      own = has.own;
+      rest = has.rest;
+      there = has.there;
+      next = has.next;
+      many = omega (arith, has.many);
+      others = (far, has.others);
+      is = has.is;
+      way = (way.0, way.1, has.way);
+      leads = has.leads;
+      goes_on = has.goes_on;
+    })
+  ]
+]
+
+-- ---- a way that begins by the line
+
+-- cursors are no further than with a line more of a node
+no_further_advanced : (n : Node) (g : Cursors) → IsNoFurther g (advanced (actor_at n) g)
+no_further_advanced node.A g = record { nodes = omega arith; client = λ e. absurd (omega (arith, e)) }
+no_further_advanced node.B g = record { nodes = omega arith; client = λ e. absurd (omega (arith, e)) }
+
+-- where all lines are matched, those of an actor are
+matched_of : (x : Actor) (l : Logs) (g : Cursors) → AreMatched l g → cursor x g ≡ length (log_of x l)
+matched_of C l g end = end.of_c
+matched_of A l g end = end.of_a
+matched_of B l g end = end.of_b
+
+-- Where a line of node n fits a state: its choice may be made before those of others, behind which it fits as well, and they do
+-- not see it.
+record ComesFirst (sc : Scenario) (n : Node) (s : State) (line : LogLine) : Type 0 where
+  pub after : (cs : List Choice) → AreOfOthers n cs → Agrees line (entry_at sc (play sc s cs) line.choice)
+      → play sc (step sc line.choice s).after cs ≡ (step sc line.choice (play sc s cs)).after
+  pub unseen : (cs : List Choice) → AreOfOthers n cs → entries sc (step sc line.choice s).after cs ≡ entries sc s cs
+
+-- a run that did comes first
+module _ (sc : Scenario) (n : Node) (t : ℕ) (s : State) (line : LogLine) (locks : LocksRise (facing n s).me.locks) (run : line.choice ≡ Run n t)
+    (did : line.told ≡ Some told.Did) (agrees : Agrees line (entry_at sc s line.choice)) where
+  -- what agrees with the line did
+  did_by : (e : Entry) → Agrees line e → e.outcome ≡ Did
+  did_by e fits = subst (λ (o : Option Told). IfSome o (λ k. Tells k e.outcome)) did fits.0
+
+  -- so the run does
+  does : Does sc n t s
+  does = record { locks = locks; outcome = did_by (entry_at sc s (Run n t)) (subst (λ (c : Choice). Agrees line (entry_at sc s c)) run agrees) }
+
+  did_after : (cs : List Choice) → AreOfOthers n cs → Agrees line (entry_at sc (play sc s cs) (Run n t))
+      → play sc (step sc (Run n t) s).after cs ≡ (step sc (Run n t) (play sc s cs)).after
+  did_after cs others fits =
+      (may_come_first sc n t s cs does others (did_by (entry_at sc (play sc s cs) (Run n t)) fits)).after ∙ play-push sc s cs (Run n t)
+
+  did_first : ComesFirst sc n s line
+  did_first = record {
+    after = λ cs others fits.
+        subst (λ (c : Choice). play sc (step sc c s).after cs ≡ (step sc c (play sc s cs)).after) (sym run)
+        (did_after cs others (subst (λ (c : Choice). Agrees line (entry_at sc (play sc s cs) c)) run fits));
+    unseen = λ cs others. subst (λ (c : Choice). entries sc (step sc c s).after cs ≡ entries sc s cs) (sym run) (unseen sc n t s cs does others);
+  }
+
+-- an outcome of which nothing comes is still
+nothing_still : (t : Told) (o : Outcome) → is_nothing t ≡ true → Tells t o → is_still o ≡ true
+nothing_still told.Started o e tells = cc e
+nothing_still told.BadMode o e tells = ap is_still tells
+nothing_still (told.Began x) o e tells = cc e
+nothing_still told.Idle o e tells = ap is_still tells
+nothing_still told.Elsewhere o e tells = ap is_still tells
+nothing_still told.NotYet o e tells = ap is_still tells
+nothing_still told.Did o e tells = cc e
+nothing_still (told.Split x y z) o e tells = cc e
+nothing_still (told.Aborted x) o e tells = cc e
+nothing_still (told.Committed x) o e tells = cc e
+nothing_still (told.Waits x) o e tells = ap is_still tells.1
+nothing_still (told.Pulls x) o e tells = cc e
+nothing_still (told.Awaits x) o e tells = ap is_still tells.1
+nothing_still told.NoMessage o e tells = ap is_still tells
+nothing_still told.GotWire o e tells = cc e
+nothing_still told.GotReady o e tells = cc e
+nothing_still told.GotDual o e tells = cc e
+nothing_still (told.Stale x) o e tells = cc e
+nothing_still (told.Held x) o e tells = ap is_still tells.1
+nothing_still (told.GotPull x) o e tells = cc e
+nothing_still (told.GotPage x) o e tells = cc e
+nothing_still told.GotFinish o e tells = cc e
+nothing_still told.GotDone o e tells = cc e
+nothing_still told.Stray o e tells = ap is_still tells
+nothing_still told.Finishing o e tells = cc e
+nothing_still (told.Active x) o e tells = ap is_still tells.1
+nothing_still (told.Pushed x) o e tells = cc e
+nothing_still told.NoPush o e tells = ap is_still tells
+
+-- a step of which nothing comes comes first
+module _ (sc : Scenario) (n : Node) (s : State) (line : LogLine) (tells : TellsNothing line) (agrees : Agrees line (entry_at sc s line.choice)) where
+  -- it changes nothing, wherever it fits
+  stays : (r : State) → Agrees line (entry_at sc r line.choice) → (step sc line.choice r).after ≡ r
+  stays r fits =
+      still_stays sc line.choice r (nothing_still tells.what (step sc line.choice r).outcome tells.nothing
+      (subst (λ (o : Option Told). IfSome o (λ k. Tells k (step sc line.choice r).outcome)) tells.told fits.0))
+
+  nothing_first : ComesFirst sc n s line
+  nothing_first = record {
+    after = λ cs others fits. ap (λ (r : State). play sc r cs) (stays s agrees) ∙ sym (stays (play sc s cs) fits);
+    unseen = λ cs others. ap (λ (r : State). entries sc r cs) (stays s agrees);
+  }
+
+-- behind the step of a line, with that line more of x, there is a way that has no more choices than some way without it, and leads as far
+pub record BeginsBy (sc : Scenario) (l : Logs) (c : Choice) (g : Cursors) (s : State) (cs : List Choice) (to : Cursors) (x : Actor) : Type 0 where
+  pub choices : List Choice
+  pub end : Cursors
+  pub few : length choices ≤ length cs
+  pub way : IsWay sc l (advanced x g) (step sc c s).after choices end
+  pub further : IsNoFurther to end
+  pub whole : AreMatched l to → AreMatched l end
+
+-- The line is the next one of node n, no step may be missing before it, and it comes first.
+module _ (sc : Scenario) (l : Logs) (n : Node) (g : Cursors) (s : State) (line : LogLine) (comes : ComesFirst sc n s line)
+    (next : slice_get (log_of (actor_at n) l) (cursor (actor_at n) g) ≡ Some line) (sure : HasGap (actor_at n) l g → ⊥) where
+  -- the node, as an actor
+  abbrev x : Actor
+  x = actor_at n
+
+  -- the state after its step
+  abbrev then : State
+  then = (step sc line.choice s).after
+
+  -- where the cursor of the node is the same, a step of the node is that of the line, which agrees with it
+  own_is : (k : Cursors) (e : Entry) (to : Cursors) → cursor_of x k ≡ cursor_of x g → actor_of e.choice ≡ x → Leads (length sc.programs) l k e to
+      → (e.choice ≡ line.choice) × Agrees line e × (to ≡ advanced x k)
+  own_is k e to same own leads = elim leads [
+    | inl by ↦
+        let here : slice_get (log_of x l) (cursor x k) ≡ Some line =
+        subst (λ (p : Cursor). slice_get (log_of x l) p.lines ≡ Some line) (sym same) next in
+        let one = same_line l k e x line own here by.0 in (
+          sym by.0.choice ∙ ap (λ (m : LogLine). m.choice) (sym one),
+          subst (λ (m : LogLine). Agrees m e) (sym one) by.0.agrees,
+          by.1 ∙ ap (λ (y : Actor). advanced y k) own,
+        )
+    | inr by ↦
+        let gap : HasGap x l k = subst (λ (y : Actor). HasGap y l k) own by.0.gap in
+        absurd (sure (subst (λ (p : Cursor). p.missing < gap_at (gaps_of x l.gaps) p) same gap))
+  ]
+
+  -- a way that has a choice of the node has that of the line first of these: it may come before all others
+  begins_own : (cs : List Choice) (to : Cursors) → HasOwn sc l n g s cs to → BeginsBy sc l line.choice g s cs to x
+  begins_own cs to h =
+      let there = play sc s h.before in
+      let is = own_is h.there (entry_at sc there h.own) h.next (way_stays sc l n g s h.before h.there h.others h.way) h.is h.leads in
+      let fits : Agrees line (entry_at sc there line.choice) = subst (λ (c : Choice). Agrees line (entry_at sc there c)) is.0 is.1 in
+      let same : (step sc h.own there).after ≡ play sc then h.before =
+      ap (λ (c : Choice). (step sc c there).after) is.0 ∙ sym (comes.after h.before h.others fits) in
+      let rest : IsWay sc l (advanced x h.there) (play sc then h.before) h.rest to =
+      subst (λ (f : Cursors). IsWay sc l f (play sc then h.before) h.rest to) is.2
+      (subst (λ (r : State). IsWay sc l h.next r h.rest to) same h.goes_on) in
+      record {
+        choices = h.before ++ h.rest;
+        end = to;
+        few = omega (arith, h.many, length-append h.before h.rest);
+        way = way_append sc l (advanced x g) then h.before h.rest (advanced x h.there) to
+            (way_beside sc l n g s then h.before h.there h.others (comes.unseen h.before h.others) h.way) rest;
+        further = no_further_self to;
+        whole = λ end. end;
+      }
+
+  -- a way that has none goes on behind the line, which is one more
+  begins_more : (cs : List Choice) (to : Cursors) → AreOfOthers n cs → IsWay sc l g s cs to → BeginsBy sc l line.choice g s cs to x
+  begins_more cs to others way =
+      let lines = ap (λ (p : Cursor). p.lines) (way_stays sc l n g s cs to others way) in
+      record {
+        choices = cs;
+        end = advanced x to;
+        few = omega arith;
+        way = way_beside sc l n g s then cs to others (comes.unseen cs others) way;
+        further = no_further_advanced n to;
+        whole = λ end. absurd (omega (arith, matched_of x l to end, lines, slice_get_within (log_of x l) (cursor x g) line next));
+      }
+
+  -- so there is one for each way
+  begins : (cs : List Choice) (to : Cursors) → IsWay sc l g s cs to → BeginsBy sc l line.choice g s cs to x
+  begins cs to way = elim (first_own sc l n g s cs to way) [
+    | inl others ↦ begins_more cs to others way
+    | inr own ↦ begins_own cs to own
+  ]
+
+-- a line that may be followed alone is of its node, so a run that it tells of is
+own_run : (n m : Node) (t : ℕ) (line : LogLine) → actor_of line.choice ≡ actor_at n → line.choice ≡ Run m t → line.choice ≡ Run n t
+own_run node.A node.A t line own run = run
+own_run node.A node.B t line own run = cc (own, ap actor_of run)
+own_run node.B node.A t line own run = cc (own, ap actor_of run)
+own_run node.B node.B t line own run = run
+
+-- such a line comes first where it fits
+alone_first : (sc : Scenario) (n : Node) (s : State) (line : LogLine) → LocksRise (facing n s).me.locks → actor_of line.choice ≡ actor_at n
+    → TellsDid line ⊎ TellsNothing line → Agrees line (entry_at sc s line.choice) → ComesFirst sc n s line
+alone_first sc n s line locks own tells agrees = elim tells [
+  | inl did ↦ did_first sc n did.txn s line locks (own_run n did.node did.txn line own did.run) did.did agrees
+  | inr nothing ↦ nothing_first sc n s line nothing agrees
+]
+
+-- so each way has one that begins by it and leads as far
+pub begins_by : (sc : Scenario) (l : Logs) (n : Node) (g : Cursors) (s : State) (line : LogLine) → LocksRise (facing n s).me.locks
+    → actor_of line.choice ≡ actor_at n → MayBeAlone n l g line → Agrees line (entry_at sc s line.choice) → (cs : List Choice) (to : Cursors)
+    → IsWay sc l g s cs to → BeginsBy sc l line.choice g s cs to (actor_at n)
+begins_by sc l n g s line locks own may agrees = begins sc l n g s line (alone_first sc n s line locks own may.tells agrees) may.next may.whole
