@@ -8,6 +8,11 @@ use Rattle.zy_check.specs.Verdicts.{IsVerdict}
 use Rattle.zy_engine.specs.Checks.{WroteOrNothing, verdict_line}
 use Rattle.zy_io.proofs.StreamLemmas.{WrotePrefix-none}
 
+-- what holds of all bytes holds of those that the reader reports
+pub of-any : (P : List ℕ → Type 0) (told : Option (List ℕ)) → ((t : List ℕ) → P t) → IfSome told P
+of-any P None h = tt
+of-any P (Some t) h = h t
+
 -- all of a text, nothing and a prefix of it are prefixes of it
 pub tell-prefix : {X : Type 0} (old new : Option (List ℕ)) (before after : ℕ) (r : Result X TextFault) (text : List ℕ)
     → WroteOrNothing old new before after r text → WrotePrefix old new text

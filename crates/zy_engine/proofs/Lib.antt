@@ -1,4 +1,3 @@
-mod RunLemmas
 mod CheckLemmas
 mod DebugLemmas
 mod MergeLemmas

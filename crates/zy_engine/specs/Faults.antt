@@ -38,6 +38,11 @@ abbrev pub of_writing : TextFault → BenchFault
 of_writing writing.Write = Write
 of_writing writing.Memory = Memory
 
+-- the result that is reported of a call that writes
+abbrev pub of_result : {X : Type 0} → Result X TextFault → Result X BenchFault
+of_result (Ok x) = Ok x
+of_result (Err f) = Err (of_writing f)
+
 abbrev pub status_of : BenchFault → ℕ
 status_of (Input r) = 1
 status_of (Image r) = 1

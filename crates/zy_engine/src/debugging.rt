@@ -2,7 +2,8 @@
 ghost use Rattle.std.specs.Prelude.{◌<◌, ◌≤◌};
 ghost use Rattle.zy_text.specs.Words.{lines_of};
 ghost use Rattle.zy_console.specs.Console.{WroteReplies, opened};
-ghost use Rattle.zy_engine.specs.Engines.{streams};
+ghost use Rattle.zy_engine.specs.Engines.{Reads, streams};
+ghost use Rattle.zy_engine.specs.Faults.{of_reading};
 ghost use Rattle.zy_engine.specs.Debugs.{Debugs, max_every, max_ring};
 
 use crate::faults::BenchFault;
@@ -39,6 +40,28 @@ fn write_replies<K: Sink>(
     write_session(alloc, &mut debugger, commands, sink)
 }
 
+/// Answers the commands below the scenario part of an input, one a line: a scenario text through its first line whose only word
+/// is `end`. Writes the replies.
+pub fn debug_input<K: Sink>(
+    alloc: Global,
+    every: usize,
+    ring: usize,
+    input: &[u8],
+    sink: &mut K,
+) -> Result<(), BenchFault>
+    requires every_least { 1 ≤ every }
+    requires every_most { every ≤ max_every }
+    requires ring_least { 1 ≤ ring }
+    requires ring_most { ring ≤ max_ring }
+    requires failures { K.failures sink.old < u64.MAX }
+    ensures { Debugs input.now (K.written sink.old) (K.written sink.new) (K.failures sink.old) (K.failures sink.new) result }
+{
+    let (part, commands) = input.split_at(cut_len(input));
+    let scenario = accept(alloc, Format::Text, part)?;
+    write_replies(alloc, scenario, every, ring, commands, sink)?;
+    Ok(())
+}
+
 /// Reads an input whole: a scenario text through its first line whose only word is `end`, and below it commands, one a
 /// line. Writes the replies. Nothing is written before the scenario is accepted.
 ///
@@ -59,13 +82,8 @@ pub fn debug_bytes<S: Source, K: Sink>(
     requires ring_most { ring ≤ max_ring }
     requires failures { (S.failures source.old < u64.MAX) × (K.failures sink.old < u64.MAX) }
     ensures { let at = streams S.left S.failures S.given K.written K.failures in
-        Debugs (at source.old sink.old) (at source.new sink.new) result }
+        Reads of_reading Debugs (at source.old sink.old) (at source.new sink.new) result }
 {
-    let bytes = read_all(alloc, source)?;
-    *input = bytes;
-    let given = input.as_slice();
-    let (part, commands) = given.split_at(cut_len(given));
-    let scenario = accept(alloc, Format::Text, part)?;
-    write_replies(alloc, scenario, every, ring, commands, sink)?;
-    Ok(())
+    *input = read_all(alloc, source)?;
+    debug_input(alloc, every, ring, input.as_slice(), sink)
 }

@@ -3,8 +3,7 @@ use Rattle.zy_io.specs.Streams.{WrotePrefix}
 use Rattle.zy_check.specs.declared.verdict.Verdict.{Verdict}
 use Rattle.zy_check.specs.Verdicts.{IsVerdict}
 use Rattle.zy_engine.specs.Checks.{verdict_line}
-use Rattle.zy_engine.proofs.CheckLemmas.{tell-prefix, prefix-of-one}
-use Rattle.zy_engine.proofs.RunLemmas.{of-any}
+use Rattle.zy_engine.proofs.CheckLemmas.{of-any, tell-prefix, prefix-of-one}
 use Rattle.zy_engine.proofs.checking.check_bytes.Goals as goal
 use Rattle.zy_io.proofs.StreamLemmas.{WrotePrefix-none}
 
