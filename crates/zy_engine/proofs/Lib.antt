@@ -1,5 +1,3 @@
-mod CheckLemmas
-mod DebugLemmas
 mod MergeLemmas
 mod AgainLemmas
 mod SearchLemmas

@@ -7,14 +7,13 @@ ghost use Rattle.zy_engine.specs.Faults.{of_reading};
 ghost use Rattle.zy_engine.specs.Debugs.{Debugs, max_every, max_ring};
 
 use crate::faults::BenchFault;
-use crate::format::{Format, accept};
+use crate::format::{Format, accept, split_scenario};
 use std::alloc::Global;
 use zy_console::session::write_session;
 use zy_debug::Debugger;
 use zy_io::reading::read_all;
 use zy_io::{Sink, Source, TextFault};
 use zy_isa::Scenario;
-use zy_text::cut::cut_len;
 
 /// The most choices from one kept copy of the machine to the next.
 pub const MAX_EVERY: usize = 4096;
@@ -49,14 +48,11 @@ pub fn debug_input<K: Sink>(
     input: &[u8],
     sink: &mut K,
 ) -> Result<(), BenchFault>
-    requires every_least { 1 ≤ every }
-    requires every_most { every ≤ max_every }
-    requires ring_least { 1 ≤ ring }
-    requires ring_most { ring ≤ max_ring }
+    requires every { 1 ≤ every }
     requires failures { K.failures sink.old < u64.MAX }
     ensures { Debugs input.now (K.written sink.old) (K.written sink.new) (K.failures sink.old) (K.failures sink.new) result }
 {
-    let (part, commands) = input.split_at(cut_len(input));
+    let (part, commands) = split_scenario(input);
     let scenario = accept(alloc, Format::Text, part)?;
     write_replies(alloc, scenario, every, ring, commands, sink)?;
     Ok(())

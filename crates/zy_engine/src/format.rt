@@ -1,5 +1,6 @@
 //! What an input is written in, and the scenario that it stands for.
-ghost use Rattle.std.specs.Prelude.{IfErr, IfOk};
+ghost use Rattle.std.specs.Prelude.{◌≡◌, IfErr, IfOk, drop, length};
+ghost use Rattle.zy_text.specs.Cut.{cut};
 ghost use Rattle.zy_engine.specs.Inputs.{IsAccepted, IsRefusal};
 
 use crate::faults::BenchFault;
@@ -8,6 +9,7 @@ use zy_asm::assembling::assemble_bytes;
 use zy_image::ImageRefusal;
 use zy_image::load::load;
 use zy_isa::Scenario;
+use zy_text::cut::cut_len;
 
 /// What an input is written in.
 #[derive(Clone, Copy, Debug, PartialEq, Eq)]
@@ -35,4 +37,13 @@ pub fn accept(alloc: Global, format: Format, bytes: &[u8]) -> Result<Scenario, B
             Err(fault) => Err(BenchFault::from(ImageRefusal::of(fault, bytes))),
         },
     }
+}
+
+/// The scenario part of an input, which is a scenario text through its first line whose only word is `end`, and what is below
+/// it.
+pub fn split_scenario(input: &[u8]) -> (&[u8], &[u8])
+    ensures part { result.0.now ≡ cut input.now }
+    ensures below { result.1.now ≡ drop (length (cut input.now)) input.now }
+{
+    input.split_at(cut_len(input))
 }
