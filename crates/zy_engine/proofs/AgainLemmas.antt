@@ -18,7 +18,7 @@ use Rattle.zy_engine.specs.declared.format.Format.TheVariants.{Text}
 use Rattle.zy_engine.specs.Again.{RunsAgain}
 use Rattle.zy_engine.specs.Faults.{of_result}
 use Rattle.zy_engine.specs.OnInput.{OnInput}
-use Rattle.zy_engine.specs.Outputs.{Runs}
+use Rattle.zy_engine.specs.Outputs.{WroteRun}
 
 -- a text means one scenario
 means_one : (text : List ℕ) (s t : Scenario) → Means text s → Means text t → s ≡ t
@@ -28,12 +28,12 @@ means_one text s t h k = sym (only_of text _ s (only text s h) h) ∙ only_of te
 module _ (sc : Scenario) (h : IsScenario sc) (old new : Option (List ℕ)) (before after : ℕ) (machine : History) where
   -- what it wrote is a listing of a scenario that the text means
   wrote : (came : Result History TextFault) (s : Scenario) → Ok machine ≡ of_result came → Means (canon sc) s
-      → Runs listing_run s old new before after came → Appends old new (listing_run sc)
+      → WroteRun listing_run s old new before after came → Appends old new (listing_run sc)
   wrote (Ok m) s e means due =
       subst (λ (t : Scenario). Appends old new (listing_run t)) (means_one (canon sc) s sc means (Means-canon sc h)) due.wrote.0
   wrote (Err f) s e means due = absurd (cc)
 
-  written_again : OnInput (Runs listing_run) Text (canon sc) old new before after (Ok machine) → Appends old new (listing_run sc)
+  written_again : OnInput (WroteRun listing_run) Text (canon sc) old new before after (Ok machine) → Appends old new (listing_run sc)
   written_again on = elim on [
     | inl done ↦ wrote done.came done.scenario done.reported done.accepted.stands done.due
     | inr refused ↦ let e = refused.reported in absurd (cc)
@@ -45,7 +45,7 @@ scenario_again sc h = record {
   part = cut-run sc h;
   means = Means-canon sc h;
   again = λ old new before after machine on. written_again sc h old new before after machine
-      (subst (λ t. OnInput (Runs listing_run) Text t old new before after (Ok machine)) (cut-run sc h) on);
+      (subst (λ t. OnInput (WroteRun listing_run) Text t old new before after (Ok machine)) (cut-run sc h) on);
 }
 
 -- so does that of a scenario with its choices in another order

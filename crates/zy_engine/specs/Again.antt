@@ -9,7 +9,7 @@ use Rattle.zy_text.specs.Cut.{cut}
 use Rattle.zy_machine.specs.Histories.{History}
 use Rattle.zy_engine.specs.declared.format.Format.TheVariants.{Text}
 use Rattle.zy_engine.specs.OnInput.{OnInput}
-use Rattle.zy_engine.specs.Outputs.{Runs}
+use Rattle.zy_engine.specs.Outputs.{WroteRun}
 
 -- the scenario part of the listing is the scenario's canonical text and means it; and run of that part, where it is
 -- done, writes the listing
@@ -17,5 +17,5 @@ pub record RunsAgain (sc : Scenario) : Type 0 where
   pub part : cut (listing_run sc) ≡ canon sc
   pub means : Means (canon sc) sc
   pub again : (old new : Option (List ℕ)) (before after : ℕ) (machine : History)
-      → OnInput (Runs listing_run) Text (cut (listing_run sc)) old new before after (Ok machine)
+      → OnInput (WroteRun listing_run) Text (cut (listing_run sc)) old new before after (Ok machine)
       → Appends old new (listing_run sc)

@@ -26,15 +26,12 @@ module _ (old new : Option (List ℕ)) (before after : ℕ) where
   WroteOrNothing (Err writing.Write) text = WrotePrefix old new text × (after ≡ before + 1)
   WroteOrNothing (Err writing.Memory) text = (new ≡ old) × (after ≡ before)
 
--- a verdict is returned, and its words go out
-pub record Tells (v : Verdict) (old new : Option (List ℕ)) (before after : ℕ) (result : Result Verdict TextFault) : Type 0 where
-  pub told : IfOk result (λ w. w ≡ v)
-  pub wrote : WroteOrNothing old new before after result (verdict_line v)
+-- a call that writes the verdict on an input and the listing of a scenario, and returns it
+pub record WroteVerdict (input : List ℕ) (sc : Scenario) (old new : Option (List ℕ)) (before after : ℕ)
+    (result : Result Verdict TextFault) : Type 0 where
+  pub returned : IfOk result (λ v. v ≡ verdict input (listing_run sc))
+  pub wrote : WroteOrNothing old new before after result (verdict_line (verdict input (listing_run sc)))
 
--- that on an input and a scenario's listing is due
-abbrev pub Judges : List ℕ → Scenario → Option (List ℕ) → Option (List ℕ) → ℕ → ℕ → Result Verdict TextFault → Type 0
-Judges input sc = Tells (verdict input (listing_run sc))
-
--- with the scenario that the scenario part means
+-- it is due for the scenario part of the input
 abbrev pub Checks : List ℕ → Option (List ℕ) → Option (List ℕ) → ℕ → ℕ → Result Verdict BenchFault → Type 0
-Checks input = OnInput (Judges input) Text (cut input)
+Checks input = OnInput (WroteVerdict input) Text (cut input)

@@ -24,9 +24,9 @@ commands_of input = lines_of (drop (length (cut input)) input)
 -- The writer's bytes went from old to new, and the number of its calls that failed from before to after.
 module _ {X : Type 0} (input : List ℕ) where
   -- the replies to the commands went out, in a session on the scenario: all of them, or a prefix
-  abbrev pub Replies : Scenario → Option (List ℕ) → Option (List ℕ) → ℕ → ℕ → Result X TextFault → Type 0
-  Replies sc old new before after result = WroteReplies old new before after result (opened sc) (commands_of input)
+  abbrev pub WroteRepliesTo : Scenario → Option (List ℕ) → Option (List ℕ) → ℕ → ℕ → Result X TextFault → Type 0
+  WroteRepliesTo sc old new before after result = WroteReplies old new before after result (opened sc) (commands_of input)
 
   -- they are due where the scenario part is accepted
   abbrev pub Debugs : Option (List ℕ) → Option (List ℕ) → ℕ → ℕ → Result X BenchFault → Type 0
-  Debugs = OnInput Replies Text (cut input)
+  Debugs = OnInput WroteRepliesTo Text (cut input)

@@ -25,19 +25,19 @@ streams left reads given written writes source sink = record {
   given = given source;
 }
 
--- An engine reports by these faults that its input could not be read, and does this with an input in hand.
+-- `Does` is what an engine does with an input in hand, and `report` gives the fault that it reports of one of reading.
 module _ {X E : Type 0} (report : ReadFault → E)
     (Does : List ℕ → Option (List ℕ) → Option (List ℕ) → ℕ → ℕ → Result X E → Type 0)
     (old new : Streams) (result : Result X E) where
-  -- it does this with an input that was read whole; else it reports the fault, and writes nothing
-  abbrev pub GoesOn : Result (Vec ℕ Global) ReadFault → Type 0
-  GoesOn (Ok bytes) = Does bytes.items old.written new.written old.writes new.writes result
-  GoesOn (Err f) = (result ≡ Err (report f)) × (new.written ≡ old.written) × (new.writes ≡ old.writes)
+  -- that is done with an input that was read whole; else the fault is reported, and nothing is written
+  abbrev pub AfterReading : Result (Vec ℕ Global) ReadFault → Type 0
+  AfterReading (Ok bytes) = Does bytes.items old.written new.written old.writes new.writes result
+  AfterReading (Err f) = (result ≡ Err (report f)) × (new.written ≡ old.written) × (new.writes ≡ old.writes)
 
-  -- it reads its input, and goes on with what came of that
-  pub record Reads : Type 0 where
+  -- it reads its input, and this is what comes after it
+  pub record ReadsInput : Type 0 where
     pub read : Result (Vec ℕ Global) ReadFault
     pub came : ReadsAll old.left new.left old.reads new.reads read
-    pub goes_on : GoesOn read
+    pub after : AfterReading read
     -- whatever the reader reports of its bytes, its calls give at most one more than the longest input has
     pub bound : new.given ≤ old.given + most_read

@@ -36,11 +36,11 @@ run_of sc = record {
 -- from before to after.
 module _ {X : Type 0} (output : Scenario → List ℕ) (sc : Scenario) (old new : Option (List ℕ)) (before after : ℕ) where
   -- at Ok all of it went out; else a prefix of it
-  abbrev pub Writes : Result X TextFault → Type 0
-  Writes result = Wrote old new before after result (output sc)
+  abbrev pub WroteOutput : Result X TextFault → Type 0
+  WroteOutput result = Wrote old new before after result (output sc)
 
 -- and that makes its choices: it returns the machine that has made them
-pub record Runs (output : Scenario → List ℕ) (sc : Scenario) (old new : Option (List ℕ)) (before after : ℕ)
+pub record WroteRun (output : Scenario → List ℕ) (sc : Scenario) (old new : Option (List ℕ)) (before after : ℕ)
     (result : Result History TextFault) : Type 0 where
-  pub wrote : Writes output sc old new before after result
+  pub wrote : WroteOutput output sc old new before after result
   pub machine : IfOk result (λ m. m ≡ run_of sc)

@@ -1,7 +1,7 @@
 //! The engine that checks a listing.
 ghost use Rattle.std.specs.Prelude.{◌≡◌, ◌<◌, IfOk};
-ghost use Rattle.zy_engine.specs.Checks.{Checks, Judges, WroteOrNothing, verdict_line};
-ghost use Rattle.zy_engine.specs.Engines.{Reads, streams};
+ghost use Rattle.zy_engine.specs.Checks.{Checks, WroteVerdict, WroteOrNothing, verdict_line};
+ghost use Rattle.zy_engine.specs.Engines.{ReadsInput, streams};
 ghost use Rattle.zy_engine.specs.Faults.{of_reading};
 
 use crate::faults::BenchFault;
@@ -24,7 +24,7 @@ fn line_of(alloc: Global, verdict: Verdict) -> Result<LineBuffer, AllocError>
     Ok(line)
 }
 
-/// Writes the words of a verdict, once they are all there.
+/// WroteOutput the words of a verdict, once they are all there.
 fn tell<K: Sink>(alloc: Global, verdict: Verdict, sink: &mut K) -> Result<(), TextFault>
     requires { K.failures sink.old < u64.MAX }
     ensures { WroteOrNothing (K.written sink.old) (K.written sink.new) (K.failures sink.old)
@@ -43,7 +43,7 @@ fn write_verdict<K: Sink>(
     sink: &mut K,
 ) -> Result<Verdict, TextFault>
     requires { K.failures sink.old < u64.MAX }
-    ensures { Judges input.now scenario (K.written sink.old) (K.written sink.new) (K.failures sink.old)
+    ensures { WroteVerdict input.now scenario (K.written sink.old) (K.written sink.new) (K.failures sink.old)
         (K.failures sink.new) result }
 {
     let verdict = compare(alloc, input, scenario)?;
@@ -51,7 +51,7 @@ fn write_verdict<K: Sink>(
     Ok(verdict)
 }
 
-/// Writes whether an input is the listing of the scenario at its head: `table`, or `not table` and the line in which they first
+/// WroteOutput whether an input is the listing of the scenario at its head: `table`, or `not table` and the line in which they first
 /// differ. It gives that verdict.
 pub fn check_input<K: Sink>(
     alloc: Global,
@@ -67,7 +67,7 @@ pub fn check_input<K: Sink>(
     Ok(verdict)
 }
 
-/// Reads an input whole, and writes whether it is the listing of the scenario at its head: `table`, or `not table` and
+/// ReadsInput an input whole, and writes whether it is the listing of the scenario at its head: `table`, or `not table` and
 /// the line in which they first differ. Nothing is written before that is known.
 pub fn check_bytes<S: Source, K: Sink>(
     alloc: Global,
@@ -76,7 +76,7 @@ pub fn check_bytes<S: Source, K: Sink>(
 ) -> Result<Verdict, BenchFault>
     requires { (S.failures source.old < u64.MAX) × (K.failures sink.old < u64.MAX) }
     ensures { let at = streams S.left S.failures S.given K.written K.failures in
-        Reads of_reading Checks (at source.old sink.old) (at source.new sink.new) result }
+        ReadsInput of_reading Checks (at source.old sink.old) (at source.new sink.new) result }
 {
     let bytes = read_all(alloc, source)?;
     check_input(alloc, bytes.as_slice(), sink)

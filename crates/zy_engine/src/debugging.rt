@@ -2,7 +2,7 @@
 ghost use Rattle.std.specs.Prelude.{◌<◌, ◌≤◌};
 ghost use Rattle.zy_text.specs.Words.{lines_of};
 ghost use Rattle.zy_console.specs.Console.{WroteReplies, opened};
-ghost use Rattle.zy_engine.specs.Engines.{Reads, streams};
+ghost use Rattle.zy_engine.specs.Engines.{ReadsInput, streams};
 ghost use Rattle.zy_engine.specs.Faults.{of_reading};
 ghost use Rattle.zy_engine.specs.Debugs.{Debugs, max_every, max_ring};
 
@@ -40,7 +40,7 @@ fn write_replies<K: Sink>(
 }
 
 /// Answers the commands below the scenario part of an input, one a line: a scenario text through its first line whose only word
-/// is `end`. Writes the replies.
+/// is `end`. WroteOutput the replies.
 pub fn debug_input<K: Sink>(
     alloc: Global,
     every: usize,
@@ -58,8 +58,8 @@ pub fn debug_input<K: Sink>(
     Ok(())
 }
 
-/// Reads an input whole: a scenario text through its first line whose only word is `end`, and below it commands, one a
-/// line. Writes the replies. Nothing is written before the scenario is accepted.
+/// ReadsInput an input whole: a scenario text through its first line whose only word is `end`, and below it commands, one a
+/// line. WroteOutput the replies. Nothing is written before the scenario is accepted.
 ///
 /// Copies of the machine are kept to replay from, at multiples of `every` and close to the position, and at most `ring`
 /// of them: they change how long a command takes, and no reply.
@@ -78,7 +78,7 @@ pub fn debug_bytes<S: Source, K: Sink>(
     requires ring_most { ring ≤ max_ring }
     requires failures { (S.failures source.old < u64.MAX) × (K.failures sink.old < u64.MAX) }
     ensures { let at = streams S.left S.failures S.given K.written K.failures in
-        Reads of_reading Debugs (at source.old sink.old) (at source.new sink.new) result }
+        ReadsInput of_reading Debugs (at source.old sink.old) (at source.new sink.new) result }
 {
     *input = read_all(alloc, source)?;
     debug_input(alloc, every, ring, input.as_slice(), sink)

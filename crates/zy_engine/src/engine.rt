@@ -4,10 +4,10 @@ ghost use Rattle.std.specs.Prelude.{◌<◌};
 ghost use Rattle.zy_text.specs.Canon.{canon};
 ghost use Rattle.zy_image.specs.Image.{image_of};
 ghost use Rattle.zy_engine.specs.declared.format.Format.TheVariants.{Text, Image};
-ghost use Rattle.zy_engine.specs.Engines.{Reads, streams};
+ghost use Rattle.zy_engine.specs.Engines.{ReadsInput, streams};
 ghost use Rattle.zy_engine.specs.Faults.{of_reading};
 ghost use Rattle.zy_engine.specs.OnInput.{OnInput};
-ghost use Rattle.zy_engine.specs.Outputs.{output_of, shown_of, Runs, Writes};
+ghost use Rattle.zy_engine.specs.Outputs.{output_of, shown_of, WroteRun, WroteOutput};
 ghost use Rattle.zy_listing.specs.Run.{listing_run};
 ghost use Rattle.zy_trace.specs.Trace.{trace};
 
@@ -29,7 +29,7 @@ pub fn run_input<K: Sink>(
     sink: &mut K,
 ) -> Result<Machine, BenchFault>
     requires { K.failures sink.old < u64.MAX }
-    ensures { OnInput (Runs (shown_of shown)) format input.now (K.written sink.old) (K.written sink.new)
+    ensures { OnInput (WroteRun (shown_of shown)) format input.now (K.written sink.old) (K.written sink.new)
         (K.failures sink.old) (K.failures sink.new) result }
 {
     let scenario = accept(alloc, format, input)?;
@@ -37,7 +37,7 @@ pub fn run_input<K: Sink>(
     Ok(machine)
 }
 
-/// Writes something of the scenario that an input stands for.
+/// WroteOutput something of the scenario that an input stands for.
 pub fn convert_input<K: Sink>(
     alloc: Global,
     format: Format,
@@ -46,7 +46,7 @@ pub fn convert_input<K: Sink>(
     sink: &mut K,
 ) -> Result<(), BenchFault>
     requires { K.failures sink.old < u64.MAX }
-    ensures { OnInput (Writes (output_of output)) format input.now (K.written sink.old) (K.written sink.new)
+    ensures { OnInput (WroteOutput (output_of output)) format input.now (K.written sink.old) (K.written sink.new)
         (K.failures sink.old) (K.failures sink.new) result }
 {
     let scenario = accept(alloc, format, input)?;
@@ -54,7 +54,7 @@ pub fn convert_input<K: Sink>(
     Ok(())
 }
 
-/// Reads a scenario whole, makes its choices, writes its listing, and gives the machine that has made them. Nothing is
+/// ReadsInput a scenario whole, makes its choices, writes its listing, and gives the machine that has made them. Nothing is
 /// written before the input is read to its end and found to be a scenario.
 /// The bytes that were read are left in `input`.
 pub fn run_bytes<S: Source, K: Sink>(
@@ -66,13 +66,13 @@ pub fn run_bytes<S: Source, K: Sink>(
 ) -> Result<Machine, BenchFault>
     requires { (S.failures source.old < u64.MAX) × (K.failures sink.old < u64.MAX) }
     ensures { let at = streams S.left S.failures S.given K.written K.failures in
-        Reads of_reading (OnInput (Runs listing_run) format) (at source.old sink.old) (at source.new sink.new) result }
+        ReadsInput of_reading (OnInput (WroteRun listing_run) format) (at source.old sink.old) (at source.new sink.new) result }
 {
     *input = read_all(alloc, source)?;
     run_input(alloc, format, RunFormat::Listing, input.as_slice(), sink)
 }
 
-/// Reads a scenario whole, makes its choices, writes the trace, and gives the machine that has made them. The trace has
+/// ReadsInput a scenario whole, makes its choices, writes the trace, and gives the machine that has made them. The trace has
 /// each step, and the lines of the state that it changed. The bytes that were read are left in `input`.
 pub fn trace_bytes<S: Source, K: Sink>(
     alloc: Global,
@@ -83,13 +83,13 @@ pub fn trace_bytes<S: Source, K: Sink>(
 ) -> Result<Machine, BenchFault>
     requires { (S.failures source.old < u64.MAX) × (K.failures sink.old < u64.MAX) }
     ensures { let at = streams S.left S.failures S.given K.written K.failures in
-        Reads of_reading (OnInput (Runs trace) format) (at source.old sink.old) (at source.new sink.new) result }
+        ReadsInput of_reading (OnInput (WroteRun trace) format) (at source.old sink.old) (at source.new sink.new) result }
 {
     *input = read_all(alloc, source)?;
     run_input(alloc, format, RunFormat::Trace, input.as_slice(), sink)
 }
 
-/// Reads a scenario text whole, and writes its image.
+/// ReadsInput a scenario text whole, and writes its image.
 /// The bytes that were read are left in `input`.
 pub fn asm_bytes<S: Source, K: Sink>(
     alloc: Global,
@@ -99,7 +99,7 @@ pub fn asm_bytes<S: Source, K: Sink>(
 ) -> Result<(), BenchFault>
     requires { (S.failures source.old < u64.MAX) × (K.failures sink.old < u64.MAX) }
     ensures { let at = streams S.left S.failures S.given K.written K.failures in
-        Reads of_reading (OnInput (Writes image_of) Text) (at source.old sink.old) (at source.new sink.new) result }
+        ReadsInput of_reading (OnInput (WroteOutput image_of) Text) (at source.old sink.old) (at source.new sink.new) result }
 {
     *input = read_all(alloc, source)?;
     convert_input(
@@ -111,7 +111,7 @@ pub fn asm_bytes<S: Source, K: Sink>(
     )
 }
 
-/// Reads an image whole, and writes the canonical text of its scenario.
+/// ReadsInput an image whole, and writes the canonical text of its scenario.
 /// The bytes that were read are left in `input`.
 pub fn dis_bytes<S: Source, K: Sink>(
     alloc: Global,
@@ -121,7 +121,7 @@ pub fn dis_bytes<S: Source, K: Sink>(
 ) -> Result<(), BenchFault>
     requires { (S.failures source.old < u64.MAX) × (K.failures sink.old < u64.MAX) }
     ensures { let at = streams S.left S.failures S.given K.written K.failures in
-        Reads of_reading (OnInput (Writes canon) Image) (at source.old sink.old) (at source.new sink.new) result }
+        ReadsInput of_reading (OnInput (WroteOutput canon) Image) (at source.old sink.old) (at source.new sink.new) result }
 {
     *input = read_all(alloc, source)?;
     convert_input(

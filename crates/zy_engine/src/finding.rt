@@ -1,11 +1,11 @@
 //! The engine that finds the positions of a scenario's run at which a goal is met.
 ghost use Rattle.std.specs.Prelude.{◌<◌, map};
 ghost use Rattle.std.specs.Fmt.{decimal};
-ghost use Rattle.zy_engine.specs.Engines.{Reads, streams};
+ghost use Rattle.zy_engine.specs.Engines.{ReadsInput, streams};
 ghost use Rattle.zy_engine.specs.Faults.{of_reading};
 ghost use Rattle.zy_engine.specs.Finding.{positions_text};
 ghost use Rattle.zy_engine.specs.OnInput.{OnInput};
-ghost use Rattle.zy_engine.specs.Outputs.{Writes};
+ghost use Rattle.zy_engine.specs.Outputs.{WroteOutput};
 
 use crate::faults::BenchFault;
 use crate::format::{Format, accept};
@@ -41,7 +41,7 @@ fn write_positions<K: Sink>(
     sink: &mut K,
 ) -> Result<usize, TextFault>
     requires { K.failures sink.old < u64.MAX }
-    ensures { Writes (positions_text sought.now) scenario (K.written sink.old) (K.written sink.new)
+    ensures { WroteOutput (positions_text sought.now) scenario (K.written sink.old) (K.written sink.new)
         (K.failures sink.old) (K.failures sink.new) result }
 {
     let positions = along(alloc, scenario, sought)?;
@@ -60,7 +60,7 @@ pub fn find_input<K: Sink>(
     sink: &mut K,
 ) -> Result<usize, BenchFault>
     requires { K.failures sink.old < u64.MAX }
-    ensures { OnInput (Writes (positions_text sought.now)) format input.now (K.written sink.old) (K.written sink.new)
+    ensures { OnInput (WroteOutput (positions_text sought.now)) format input.now (K.written sink.old) (K.written sink.new)
         (K.failures sink.old) (K.failures sink.new) result }
 {
     let scenario = accept(alloc, format, input)?;
@@ -68,7 +68,7 @@ pub fn find_input<K: Sink>(
     Ok(count)
 }
 
-/// Reads a scenario whole, makes its choices, and writes the positions at which its state shows what is looked for, one
+/// ReadsInput a scenario whole, makes its choices, and writes the positions at which its state shows what is looked for, one
 /// a line: how many choices are made there. It gives how many there are. The bytes that were read are left in `input`.
 pub fn find_bytes<S: Source, K: Sink>(
     alloc: Global,
@@ -80,7 +80,7 @@ pub fn find_bytes<S: Source, K: Sink>(
 ) -> Result<usize, BenchFault>
     requires { (S.failures source.old < u64.MAX) × (K.failures sink.old < u64.MAX) }
     ensures { let at = streams S.left S.failures S.given K.written K.failures in
-        Reads of_reading (OnInput (Writes (positions_text sought.now)) format) (at source.old sink.old)
+        ReadsInput of_reading (OnInput (WroteOutput (positions_text sought.now)) format) (at source.old sink.old)
         (at source.new sink.new) result }
 {
     *input = read_all(alloc, source)?;

@@ -1,6 +1,6 @@
 //! What the engines write of a scenario.
 ghost use Rattle.std.specs.Prelude.{◌<◌};
-ghost use Rattle.zy_engine.specs.Outputs.{output_of, shown_of, Runs, Writes};
+ghost use Rattle.zy_engine.specs.Outputs.{output_of, shown_of, WroteRun, WroteOutput};
 ghost use Rattle.zy_engine.specs.declared.output.SourceFormat.TheVariants.{Image};
 
 use std::alloc::Global;
@@ -31,7 +31,7 @@ impl RunFormat {
         sink: &mut K,
     ) -> Result<Machine, TextFault>
         requires { K.failures sink.old < u64.MAX }
-        ensures { Runs (shown_of self) scenario (K.written sink.old) (K.written sink.new) (K.failures sink.old)
+        ensures { WroteRun (shown_of self) scenario (K.written sink.old) (K.written sink.new) (K.failures sink.old)
             (K.failures sink.new) result }
     {
         match self {
@@ -51,7 +51,7 @@ pub enum SourceFormat {
 }
 
 impl SourceFormat {
-    /// Writes it, or a prefix of it.
+    /// WroteOutput it, or a prefix of it.
     pub fn write<K: Sink>(
         self,
         alloc: Global,
@@ -59,7 +59,7 @@ impl SourceFormat {
         sink: &mut K,
     ) -> Result<(), TextFault>
         requires { K.failures sink.old < u64.MAX }
-        ensures { Writes (output_of self) scenario (K.written sink.old) (K.written sink.new) (K.failures sink.old)
+        ensures { WroteOutput (output_of self) scenario (K.written sink.old) (K.written sink.new) (K.failures sink.old)
             (K.failures sink.new) result }
     {
         match self {
@@ -69,10 +69,10 @@ impl SourceFormat {
     }
 }
 
-/// Writes its image, or a prefix of it.
+/// WroteOutput its image, or a prefix of it.
 fn write_image<K: Sink>(alloc: Global, scenario: &Scenario, sink: &mut K) -> Result<(), TextFault>
     requires { K.failures sink.old < u64.MAX }
-    ensures { Writes (output_of Image) scenario.now (K.written sink.old) (K.written sink.new) (K.failures sink.old)
+    ensures { WroteOutput (output_of Image) scenario.now (K.written sink.old) (K.written sink.new) (K.failures sink.old)
         (K.failures sink.new) result }
 {
     let image = save(alloc, scenario)?;

@@ -5,7 +5,7 @@ ghost use Rattle.zy_text.specs.Canon.{canon};
 ghost use Rattle.zy_text.specs.Text.{Means};
 ghost use Rattle.zy_threads.specs.Orders.{reordered};
 ghost use Rattle.zy_engine.specs.declared.wording.Wording.TheVariants.{Own};
-ghost use Rattle.zy_engine.specs.Engines.{Reads, streams};
+ghost use Rattle.zy_engine.specs.Engines.{ReadsInput, streams};
 ghost use Rattle.zy_engine.specs.Faults.{of_reading};
 ghost use Rattle.zy_engine.specs.OnInput.{OnInput};
 ghost use Rattle.zy_engine.specs.Searching.{history_of, IsTextOf, IsWorded, WroteAnswer, WroteSome};
@@ -118,7 +118,7 @@ fn own_text(
     }
 }
 
-/// Writes the canonical text of a scenario with its first choices and more behind them.
+/// WroteOutput the canonical text of a scenario with its first choices and more behind them.
 fn write_canonical<K: Sink>(
     alloc: Global,
     scenario: &Scenario,
@@ -140,7 +140,7 @@ fn write_canonical<K: Sink>(
     .write(sink, &mut line)
 }
 
-/// Writes the text of a scenario with its first choices and more behind them in the words of its own text, if that is
+/// WroteOutput the text of a scenario with its first choices and more behind them in the words of its own text, if that is
 /// what these mean; else as canonical text.
 fn write_own<K: Sink>(
     alloc: Global,
@@ -163,7 +163,7 @@ fn write_own<K: Sink>(
     }
 }
 
-/// Writes a text of a scenario with the choices that its machine has made, which are its first ones, and more behind them.
+/// WroteOutput a text of a scenario with the choices that its machine has made, which are its first ones, and more behind them.
 /// The scenario's own text is at hand.
 pub fn write_found<K: Sink>(
     alloc: Global,
@@ -186,7 +186,7 @@ pub fn write_found<K: Sink>(
     }
 }
 
-/// Writes what goes out of an answer.
+/// WroteOutput what goes out of an answer.
 fn write_answer<K: Sink>(
     alloc: Global,
     wording: Wording,
@@ -255,7 +255,7 @@ pub fn search_input<R: Threads + Sync, K: Sink, W: Watch>(
     Ok(report)
 }
 
-/// Reads a scenario whole, makes the choices that are steps already taken, and looks for a state that further ones lead
+/// ReadsInput a scenario whole, makes the choices that are steps already taken, and looks for a state that further ones lead
 /// to and that shows what is sought. Where there is one, the scenario goes out with these choices and a shortest list of
 /// further ones behind them; else nothing does. The watch learns how far the search is.
 /// The bytes that were read are left in `input`.
@@ -271,7 +271,7 @@ pub fn search_bytes<R: Threads + Sync, S: Source, K: Sink, W: Watch>(
 ) -> Result<SearchReport, BenchFault>
     requires { (S.failures source.old < u64.MAX) × (K.failures sink.old < u64.MAX) }
     ensures { let at = streams S.left S.failures S.given K.written K.failures in
-        Reads of_reading (OnInput (WroteAnswer options sought) options.format) (at source.old sink.old)
+        ReadsInput of_reading (OnInput (WroteAnswer options sought) options.format) (at source.old sink.old)
         (at source.new sink.new) result }
 {
     *input = read_all(alloc, source)?;

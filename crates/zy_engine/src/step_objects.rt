@@ -1,9 +1,9 @@
 //! The engine that writes the steps of a run as objects of JSON, each of which is a line of a log.
 ghost use Rattle.std.specs.Prelude.{◌<◌, map};
-ghost use Rattle.zy_engine.specs.Engines.{Reads, streams};
+ghost use Rattle.zy_engine.specs.Engines.{ReadsInput, streams};
 ghost use Rattle.zy_engine.specs.Faults.{of_reading};
 ghost use Rattle.zy_engine.specs.OnInput.{OnInput};
-ghost use Rattle.zy_engine.specs.Outputs.{Runs};
+ghost use Rattle.zy_engine.specs.Outputs.{WroteRun};
 ghost use Rattle.zy_engine.specs.StepObjects.{action_text, object_text, objects_text};
 
 use crate::faults::BenchFault;
@@ -83,7 +83,7 @@ fn write_objects<K: Sink>(
     sink: &mut K,
 ) -> Result<Machine, TextFault>
     requires { K.failures sink.old < u64.MAX }
-    ensures { Runs objects_text scenario (K.written sink.old) (K.written sink.new) (K.failures sink.old)
+    ensures { WroteRun objects_text scenario (K.written sink.old) (K.written sink.new) (K.failures sink.old)
         (K.failures sink.new) result }
 {
     let machine = Machine::run_all(alloc, scenario)?;
@@ -101,7 +101,7 @@ pub fn objects_input<K: Sink>(
     sink: &mut K,
 ) -> Result<Machine, BenchFault>
     requires { K.failures sink.old < u64.MAX }
-    ensures { OnInput (Runs objects_text) format input.now (K.written sink.old) (K.written sink.new)
+    ensures { OnInput (WroteRun objects_text) format input.now (K.written sink.old) (K.written sink.new)
         (K.failures sink.old) (K.failures sink.new) result }
 {
     let scenario = accept(alloc, format, input)?;
@@ -109,7 +109,7 @@ pub fn objects_input<K: Sink>(
     Ok(machine)
 }
 
-/// Reads a scenario whole, makes its choices, writes the object of each step on a line of its own, in the order of the steps,
+/// ReadsInput a scenario whole, makes its choices, writes the object of each step on a line of its own, in the order of the steps,
 /// and gives the machine that has made them. The bytes that were read are left in `input`.
 pub fn objects_bytes<S: Source, K: Sink>(
     alloc: Global,
@@ -120,7 +120,7 @@ pub fn objects_bytes<S: Source, K: Sink>(
 ) -> Result<Machine, BenchFault>
     requires { (S.failures source.old < u64.MAX) × (K.failures sink.old < u64.MAX) }
     ensures { let at = streams S.left S.failures S.given K.written K.failures in
-        Reads of_reading (OnInput (Runs objects_text) format) (at source.old sink.old) (at source.new sink.new) result }
+        ReadsInput of_reading (OnInput (WroteRun objects_text) format) (at source.old sink.old) (at source.new sink.new) result }
 {
     *input = read_all(alloc, source)?;
     objects_input(alloc, format, input.as_slice(), sink)

@@ -1,6 +1,6 @@
 //! The engine of a run by three threads.
 ghost use Rattle.std.specs.Prelude.{◌<◌};
-ghost use Rattle.zy_engine.specs.Engines.{Reads, streams};
+ghost use Rattle.zy_engine.specs.Engines.{ReadsInput, streams};
 ghost use Rattle.zy_engine.specs.Faults.{of_reading};
 ghost use Rattle.zy_engine.specs.OnInput.{OnInput};
 ghost use Rattle.zy_engine.specs.Threads.{WroteMerge};
@@ -55,7 +55,7 @@ pub fn threads_input<K: Sink, R: Threads + Wait + Sync, G: Gate + Sync>(
     Ok(machine)
 }
 
-/// Reads a scenario whole, makes its choices by three threads, writes its listing in the order that they took, and
+/// ReadsInput a scenario whole, makes its choices by three threads, writes its listing in the order that they took, and
 /// gives the machine that has made them. Nothing is written before the input is read to its end and found to be a
 /// scenario.
 /// The bytes that were read are left in `input`.
@@ -70,7 +70,7 @@ pub fn threads_bytes<S: Source, K: Sink, R: Threads + Wait + Sync, G: Gate + Syn
 ) -> Result<Machine, BenchFault>
     requires { (S.failures source.old < u64.MAX) × (K.failures sink.old < u64.MAX) }
     ensures { let at = streams S.left S.failures S.given K.written K.failures in
-        Reads of_reading (OnInput WroteMerge format) (at source.old sink.old) (at source.new sink.new) result }
+        ReadsInput of_reading (OnInput WroteMerge format) (at source.old sink.old) (at source.new sink.new) result }
 {
     *input = read_all(alloc, source)?;
     threads_input(rt, alloc, format, input.as_slice(), sink, gate)
