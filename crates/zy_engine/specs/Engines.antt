@@ -38,6 +38,6 @@ module _ {X E : Type 0} (report : ReadFault → E)
   pub record ReadsInput : Type 0 where
     pub read : Result (Vec ℕ Global) ReadFault
     pub came : ReadsAll old.left new.left old.reads new.reads read
-    pub after : AfterReading read
+    pub goes_on : AfterReading read
     -- whatever the reader reports of its bytes, its calls give at most one more than the longest input has
     pub bound : new.given ≤ old.given + most_read

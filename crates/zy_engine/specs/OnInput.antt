@@ -1,6 +1,5 @@
 -- What a command does with an input in hand.
 use Rattle.std.specs.Prelude.{◌≡◌, ◌⊎◌, ℕ, List, Option, Result, Err}
-use Rattle.zy_io.specs.Writing.{Wrote}
 use Rattle.zy_io.specs.declared.writing.TextFault.{TextFault}
 use Rattle.zy_isa.specs.Scenario.{Scenario}
 use Rattle.zy_engine.specs.declared.faults.BenchFault.{BenchFault}

@@ -24,7 +24,7 @@ fn line_of(alloc: Global, verdict: Verdict) -> Result<LineBuffer, AllocError>
     Ok(line)
 }
 
-/// WroteOutput the words of a verdict, once they are all there.
+/// Writes the words of a verdict, once they are all there.
 fn tell<K: Sink>(alloc: Global, verdict: Verdict, sink: &mut K) -> Result<(), TextFault>
     requires { K.failures sink.old < u64.MAX }
     ensures { WroteOrNothing (K.written sink.old) (K.written sink.new) (K.failures sink.old)
@@ -51,8 +51,8 @@ fn write_verdict<K: Sink>(
     Ok(verdict)
 }
 
-/// WroteOutput whether an input is the listing of the scenario at its head: `table`, or `not table` and the line in which they first
-/// differ. It gives that verdict.
+/// Writes whether an input is the listing of the scenario at its head: `table`, or `not table` and the line in which they first
+/// differ. It gives that verdict. Nothing is written before that is known.
 pub fn check_input<K: Sink>(
     alloc: Global,
     input: &[u8],
@@ -67,8 +67,7 @@ pub fn check_input<K: Sink>(
     Ok(verdict)
 }
 
-/// ReadsInput an input whole, and writes whether it is the listing of the scenario at its head: `table`, or `not table` and
-/// the line in which they first differ. Nothing is written before that is known.
+/// Reads an input whole, and then does what `check_input` does.
 pub fn check_bytes<S: Source, K: Sink>(
     alloc: Global,
     source: &mut S,

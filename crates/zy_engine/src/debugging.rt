@@ -39,8 +39,11 @@ fn write_replies<K: Sink>(
     write_session(alloc, &mut debugger, commands, sink)
 }
 
-/// Answers the commands below the scenario part of an input, one a line: a scenario text through its first line whose only word
-/// is `end`. WroteOutput the replies.
+/// Answers an input: a scenario text through its first line whose only word is `end`, and below it commands, one a line. Writes
+/// the replies. Nothing is written before the scenario is accepted.
+///
+/// Copies of the machine are kept to replay from, at multiples of `every` and close to the position, and at most `ring`
+/// of them: they change how long a command takes, and no reply.
 pub fn debug_input<K: Sink>(
     alloc: Global,
     every: usize,
@@ -58,12 +61,7 @@ pub fn debug_input<K: Sink>(
     Ok(())
 }
 
-/// ReadsInput an input whole: a scenario text through its first line whose only word is `end`, and below it commands, one a
-/// line. WroteOutput the replies. Nothing is written before the scenario is accepted.
-///
-/// Copies of the machine are kept to replay from, at multiples of `every` and close to the position, and at most `ring`
-/// of them: they change how long a command takes, and no reply.
-/// The bytes that were read are left in `input`.
+/// Reads an input whole, and then does what `debug_input` does. The bytes that were read are left in `input`.
 pub fn debug_bytes<S: Source, K: Sink>(
     alloc: Global,
     every: usize,

@@ -1,5 +1,5 @@
-//! The engines: bytes in, bytes out. Each command is a function on an input in hand, and one that reads the input first. That
-//! one leaves what it has read to its caller, who can look at it again where it is refused.
+//! The engines of `run`, `trace`, `asm` and `dis`: bytes in, bytes out. Each is a function on an input in hand, and one that reads
+//! the input first. That one leaves what it has read to its caller, who can look at it again where it is refused.
 ghost use Rattle.std.specs.Prelude.{◌<◌};
 ghost use Rattle.zy_text.specs.Canon.{canon};
 ghost use Rattle.zy_image.specs.Image.{image_of};
@@ -20,7 +20,7 @@ use zy_io::{Sink, Source};
 use zy_machine::Machine;
 
 /// Makes the choices of the scenario that an input stands for, writes something of the run, and gives the machine that has
-/// made them.
+/// made them. Nothing is written before the input is found to be a scenario.
 pub fn run_input<K: Sink>(
     alloc: Global,
     format: Format,
@@ -37,7 +37,7 @@ pub fn run_input<K: Sink>(
     Ok(machine)
 }
 
-/// WroteOutput something of the scenario that an input stands for.
+/// Writes something of the scenario that an input stands for.
 pub fn convert_input<K: Sink>(
     alloc: Global,
     format: Format,
@@ -54,9 +54,7 @@ pub fn convert_input<K: Sink>(
     Ok(())
 }
 
-/// ReadsInput a scenario whole, makes its choices, writes its listing, and gives the machine that has made them. Nothing is
-/// written before the input is read to its end and found to be a scenario.
-/// The bytes that were read are left in `input`.
+/// Reads an input whole, and then writes the listing, as `run_input` does. The bytes that were read are left in `input`.
 pub fn run_bytes<S: Source, K: Sink>(
     alloc: Global,
     format: Format,
@@ -72,8 +70,8 @@ pub fn run_bytes<S: Source, K: Sink>(
     run_input(alloc, format, RunFormat::Listing, input.as_slice(), sink)
 }
 
-/// ReadsInput a scenario whole, makes its choices, writes the trace, and gives the machine that has made them. The trace has
-/// each step, and the lines of the state that it changed. The bytes that were read are left in `input`.
+/// Reads an input whole, and then writes the trace, as `run_input` does: each step, and the lines of the state that it changed.
+/// The bytes that were read are left in `input`.
 pub fn trace_bytes<S: Source, K: Sink>(
     alloc: Global,
     format: Format,
@@ -89,8 +87,8 @@ pub fn trace_bytes<S: Source, K: Sink>(
     run_input(alloc, format, RunFormat::Trace, input.as_slice(), sink)
 }
 
-/// ReadsInput a scenario text whole, and writes its image.
-/// The bytes that were read are left in `input`.
+/// Reads an input whole, and then writes the image of the scenario that it means, as `convert_input` does. The bytes that were
+/// read are left in `input`.
 pub fn asm_bytes<S: Source, K: Sink>(
     alloc: Global,
     source: &mut S,
@@ -111,8 +109,8 @@ pub fn asm_bytes<S: Source, K: Sink>(
     )
 }
 
-/// ReadsInput an image whole, and writes the canonical text of its scenario.
-/// The bytes that were read are left in `input`.
+/// Reads an image whole, and then writes the canonical text of its scenario, as `convert_input` does. The bytes that were read are
+/// left in `input`.
 pub fn dis_bytes<S: Source, K: Sink>(
     alloc: Global,
     source: &mut S,

@@ -51,7 +51,7 @@ fn write_positions<K: Sink>(
 }
 
 /// Makes the choices of the scenario that an input stands for, and writes the positions at which its state shows what is
-/// looked for. It gives how many there are.
+/// looked for, one a line: how many choices are made there. It gives how many there are.
 pub fn find_input<K: Sink>(
     alloc: Global,
     format: Format,
@@ -68,8 +68,7 @@ pub fn find_input<K: Sink>(
     Ok(count)
 }
 
-/// ReadsInput a scenario whole, makes its choices, and writes the positions at which its state shows what is looked for, one
-/// a line: how many choices are made there. It gives how many there are. The bytes that were read are left in `input`.
+/// Reads an input whole, and then does what `find_input` does. The bytes that were read are left in `input`.
 pub fn find_bytes<S: Source, K: Sink>(
     alloc: Global,
     format: Format,

@@ -51,7 +51,7 @@ pub enum SourceFormat {
 }
 
 impl SourceFormat {
-    /// WroteOutput it, or a prefix of it.
+    /// Writes it, or a prefix of it.
     pub fn write<K: Sink>(
         self,
         alloc: Global,
@@ -69,7 +69,7 @@ impl SourceFormat {
     }
 }
 
-/// WroteOutput its image, or a prefix of it.
+/// Writes its image, or a prefix of it.
 fn write_image<K: Sink>(alloc: Global, scenario: &Scenario, sink: &mut K) -> Result<(), TextFault>
     requires { K.failures sink.old < u64.MAX }
     ensures { WroteOutput (output_of Image) scenario.now (K.written sink.old) (K.written sink.new) (K.failures sink.old)

@@ -118,7 +118,7 @@ fn own_text(
     }
 }
 
-/// WroteOutput the canonical text of a scenario with its first choices and more behind them.
+/// Writes the canonical text of a scenario with its first choices and more behind them.
 fn write_canonical<K: Sink>(
     alloc: Global,
     scenario: &Scenario,
@@ -140,7 +140,7 @@ fn write_canonical<K: Sink>(
     .write(sink, &mut line)
 }
 
-/// WroteOutput the text of a scenario with its first choices and more behind them in the words of its own text, if that is
+/// Writes the text of a scenario with its first choices and more behind them in the words of its own text, if that is
 /// what these mean; else as canonical text.
 fn write_own<K: Sink>(
     alloc: Global,
@@ -163,7 +163,7 @@ fn write_own<K: Sink>(
     }
 }
 
-/// WroteOutput a text of a scenario with the choices that its machine has made, which are its first ones, and more behind them.
+/// Writes a text of a scenario with the choices that its machine has made, which are its first ones, and more behind them.
 /// The scenario's own text is at hand.
 pub fn write_found<K: Sink>(
     alloc: Global,
@@ -186,7 +186,7 @@ pub fn write_found<K: Sink>(
     }
 }
 
-/// WroteOutput what goes out of an answer.
+/// Writes what goes out of an answer.
 fn write_answer<K: Sink>(
     alloc: Global,
     wording: Wording,
@@ -255,10 +255,7 @@ pub fn search_input<R: Threads + Sync, K: Sink, W: Watch>(
     Ok(report)
 }
 
-/// ReadsInput a scenario whole, makes the choices that are steps already taken, and looks for a state that further ones lead
-/// to and that shows what is sought. Where there is one, the scenario goes out with these choices and a shortest list of
-/// further ones behind them; else nothing does. The watch learns how far the search is.
-/// The bytes that were read are left in `input`.
+/// Reads an input whole, and then does what `search_input` does. The bytes that were read are left in `input`.
 pub fn search_bytes<R: Threads + Sync, S: Source, K: Sink, W: Watch>(
     rt: &R,
     alloc: Global,

@@ -109,8 +109,7 @@ pub fn objects_input<K: Sink>(
     Ok(machine)
 }
 
-/// ReadsInput a scenario whole, makes its choices, writes the object of each step on a line of its own, in the order of the steps,
-/// and gives the machine that has made them. The bytes that were read are left in `input`.
+/// Reads an input whole, and then does what `objects_input` does. The bytes that were read are left in `input`.
 pub fn objects_bytes<S: Source, K: Sink>(
     alloc: Global,
     format: Format,

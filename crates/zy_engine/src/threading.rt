@@ -55,10 +55,7 @@ pub fn threads_input<K: Sink, R: Threads + Wait + Sync, G: Gate + Sync>(
     Ok(machine)
 }
 
-/// ReadsInput a scenario whole, makes its choices by three threads, writes its listing in the order that they took, and
-/// gives the machine that has made them. Nothing is written before the input is read to its end and found to be a
-/// scenario.
-/// The bytes that were read are left in `input`.
+/// Reads an input whole, and then does what `threads_input` does. The bytes that were read are left in `input`.
 pub fn threads_bytes<S: Source, K: Sink, R: Threads + Wait + Sync, G: Gate + Sync>(
     rt: &R,
     alloc: Global,

@@ -66,8 +66,9 @@ fn write_order<K: Sink>(
     Ok(report)
 }
 
-/// Looks for an order of the lines of logs below the scenario part of an input, behind the scenario's own choices, which are steps
-/// already taken. Where there is one, the scenario goes out with its choices and those of the order behind them; else nothing does.
+/// Answers an input: a scenario text through its first line whose only word is `end`, and below it lines of three logs, mixed in
+/// any way. The scenario's own choices are steps already taken. Looks for an order of the logs behind them, and where there is
+/// one, the scenario goes out with its choices and those of the order behind them; else nothing does.
 pub fn order_input<K: Sink>(
     alloc: Global,
     options: OrderOptions,
@@ -86,10 +87,7 @@ pub fn order_input<K: Sink>(
     Ok(report)
 }
 
-/// ReadsInput an input whole: a scenario text through its first line whose only word is `end`, and below it lines of three logs,
-/// mixed in any way. The scenario's own choices are steps already taken. Looks for an order of the logs behind them, and
-/// where there is one, the scenario goes out with its choices and those of the order behind them; else nothing does.
-/// The bytes that were read are left in `input`.
+/// Reads an input whole, and then does what `order_input` does. The bytes that were read are left in `input`.
 pub fn order_bytes<S: Source, K: Sink>(
     alloc: Global,
     options: OrderOptions,
