@@ -2,15 +2,15 @@
 
 use crate::listing::LineKept;
 use std::alloc::Global;
-use zy_engine::engine::run_bytes;
+use zy_engine::engine::run_input;
+use zy_engine::format::split_scenario;
+use zy_engine::output::RunFormat;
 use zy_engine::{BenchFault, Format};
-use zy_io::SliceSource;
 use zy_machine::Machine;
-use zy_text::cut::cut_len;
 
 /// The scenario part of an input.
 pub fn scenario_part(input: &[u8]) -> &[u8] {
-    let (part, _) = input.split_at(cut_len(input).min(input.len()));
+    let (part, _) = split_scenario(input);
     part
 }
 
@@ -21,9 +21,7 @@ pub fn run_again(
     scenario: &[u8],
     kept: &mut LineKept,
 ) -> Result<Machine, BenchFault> {
-    let mut source = SliceSource::new(scenario);
-    let mut input = Vec::new(alloc);
-    run_bytes(alloc, format, &mut source, kept, &mut input)
+    run_input(alloc, format, RunFormat::Listing, scenario, kept)
 }
 
 /// Makes the choices of a scenario.

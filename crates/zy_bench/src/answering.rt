@@ -14,14 +14,14 @@ use std::alloc::Global;
 use std::io::{Read, Write};
 use std::thread::Threads;
 use std::time::Clock;
-use zy_engine::finding::find_bytes;
-use zy_engine::searching::search_bytes;
+use zy_engine::finding::find_input;
+use zy_engine::searching::search_input;
 use zy_engine::{BenchFault, Format, SearchOptions};
 use zy_goals::named::{Named, named_by};
 use zy_goals::reading::{read_always, read_goal};
 use zy_goals::{GoalFault, Names};
+use zy_io::CountingReader;
 use zy_io::reading::read_all;
-use zy_io::{CountingReader, SliceSource};
 use zy_search::{SearchAnswer, SearchReport, Sought};
 
 /// What a search is to look for, in a scenario whose transactions have these names.
@@ -138,14 +138,13 @@ fn search<R: Eprint + AllocGlobal + Clock + Threads + Sync, W: Write>(
         return Ok(COMMAND_LINE);
     }
     let mut progress = Progress::new(rt, is_terminal);
-    let searched = search_bytes(
+    let searched = search_input(
         rt,
         rt.alloc(),
         options,
         sought,
-        &mut SliceSource::new(scenario),
+        scenario,
         output,
-        &mut Vec::new(rt.alloc()),
         &mut progress,
     );
     progress.clear();
@@ -168,15 +167,7 @@ fn find<R: Eprint + AllocGlobal, W: Write>(
 ) -> Result<u8, BenchFault>
     requires { output.old.1 < u64.MAX }
 {
-    let source = &mut SliceSource::new(scenario);
-    let count = find_bytes(
-        rt.alloc(),
-        format,
-        &sought,
-        source,
-        output,
-        &mut Vec::new(rt.alloc()),
-    )?;
+    let count = find_input(rt.alloc(), format, &sought, scenario, output)?;
     flush(output)?;
     Ok(if count == 0 { NOWHERE } else { DONE })
 }

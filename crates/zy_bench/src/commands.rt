@@ -5,8 +5,8 @@ use zy_console::command::command_of;
 use zy_diagnostics::BadCommand;
 use zy_diagnostics::line::is_line_feed;
 use zy_diagnostics::text::Position;
+use zy_engine::format::split_scenario;
 use zy_text::Words;
-use zy_text::cut::cut_len;
 use zy_text::line::take_line;
 
 /// Where the commands of a session are.
@@ -21,7 +21,7 @@ pub struct Commands<'a> {
 impl<'a> Commands<'a> {
     /// Says on standard error which lines below the scenario are no commands, and why.
     pub fn tell_bad(self, rt: &impl Eprint, input: &[u8]) {
-        let (scenario, commands) = input.split_at(cut_len(input).min(input.len()));
+        let (scenario, commands) = split_scenario(input);
         let above = scenario.iter().filter(|byte| is_line_feed(byte)).count();
         let mut words = Words::new();
         for (index, line) in commands.split(is_line_feed).enumerate() {

@@ -9,6 +9,7 @@ use std::alloc::{AllocError, Global};
 use std::fmt;
 use zy_diagnostics::line::SourceLine;
 use zy_diagnostics::text::Position;
+use zy_engine::format::split_scenario;
 use zy_engine::{BenchFault, Format};
 use zy_io::{Line, LineBuffer, MAX_INPUT};
 use zy_isa::{Actor, Choice, MAX_CHOICES};
@@ -19,7 +20,6 @@ use zy_order::Taken;
 use zy_ordering::logs_below::read_below;
 use zy_ordering::{BelowFault, LogFormat, OrderOptions};
 use zy_table::Entry;
-use zy_text::cut::cut_len;
 
 /// A number of lines of each actor.
 #[derive(Clone, Copy)]
@@ -116,7 +116,7 @@ impl Furthest {
         order: &[Choice],
         taken: Taken,
     ) -> Result<Furthest, BenchFault> {
-        let (text, below) = input.split_at(cut_len(input).min(input.len()));
+        let (text, below) = split_scenario(input);
         let mut machine = make_again(alloc, Format::Text, text)?;
         let lines = lines_again(alloc, options, &machine, text, below)?;
         go_on(&mut machine, order)?;

@@ -53,14 +53,14 @@ use std::{fs, io};
 use zy_check::Verdict;
 use zy_diagnostics::CommandName as Reader;
 use zy_diagnostics::line::whole_line;
-use zy_engine::checking::check_bytes;
+use zy_engine::checking::check_input;
 use zy_engine::debugging::{MAX_EVERY, MAX_RING, debug_bytes};
 use zy_engine::engine::{asm_bytes, dis_bytes, run_bytes, trace_bytes};
 use zy_engine::step_objects::objects_bytes;
 use zy_engine::threading::threads_bytes;
 use zy_engine::{BenchFault, Format};
+use zy_io::CountingReader;
 use zy_io::reading::read_all;
-use zy_io::{CountingReader, SliceSource};
 use zy_machine::Machine;
 use zy_text::cut::cut_len;
 use zy_threads::FreeGate;
@@ -151,7 +151,7 @@ fn check<R: Eprint + AllocGlobal, G: Read, W: Write>(
 {
     *input = read_all(rt.alloc(), &mut CountingReader::new(given))?;
     let listing = input.as_slice();
-    let verdict = check_bytes(rt.alloc(), &mut SliceSource::new(listing), output)?;
+    let verdict = check_input(rt.alloc(), listing, output)?;
     match verdict {
         Verdict::Table => {
             flush(output)?;

@@ -1,4 +1,3 @@
-pub mod CheckLemmas
 pub mod CommonLemmas
 pub mod CompareLemmas
 pub mod JudgeLemmas

@@ -1,4 +1,3 @@
 pub mod Differs
-pub mod Faults
 pub mod Verdicts
 pub mod Comparing

@@ -1,10 +1,8 @@
 -- What a check finds.
-use Rattle.std.specs.Prelude.{◌≡◌, ℕ, List, Result, Ok, Err}
+use Rattle.std.specs.Prelude.{◌≡◌, ℕ, List}
 use Rattle.zy_isa.specs.Scenario.{Scenario}
 use Rattle.zy_text.specs.Text.{Means}
 use Rattle.zy_listing.specs.Run.{listing_run}
-use Rattle.zy_check.specs.declared.faults.CheckFault.{CheckFault}
-use Rattle.zy_check.specs.declared.faults.CheckFault.TheVariants.{Scenario as InScenario, Read, Memory, TooLong}
 use Rattle.zy_check.specs.declared.verdict.Verdict.{Verdict}
 use Rattle.zy_text.specs.Cut.{cut}
 use Rattle.zy_check.specs.Differs.{verdict}
@@ -16,11 +14,3 @@ IsVerdict input v = (sc : Scenario) × Means (cut input) sc × (v ≡ verdict in
 -- the input is the listing of the scenario that its scenario part means
 abbrev pub IsListing : List ℕ → Type 0
 IsListing input = (sc : Scenario) × Means (cut input) sc × (input ≡ listing_run sc)
-
--- the answer is this verdict, unless a call failed or there was no memory
-abbrev pub GivesVerdict : Result Verdict CheckFault → Verdict → Type 0
-GivesVerdict (Ok v) w = v ≡ w
-GivesVerdict (Err (InScenario r)) w = ⊥
-GivesVerdict (Err Read) w = Unit {0}
-GivesVerdict (Err Memory) w = Unit {0}
-GivesVerdict (Err TooLong) w = ⊥

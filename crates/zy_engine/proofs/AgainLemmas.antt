@@ -1,6 +1,7 @@
 -- The scenario part of a listing gives that listing.
-use Rattle.std.proofs.Common.{◌≡◌, ◌∙◌, ℕ, List, IfSome, Option, Some, subst, sym, ap}
+use Rattle.std.proofs.Common.{◌≡◌, ◌∙◌, ℕ, List, Option, Result, Ok, Err, inl, inr, subst, sym}
 use Rattle.std.specs.Io.KnownBytes.{Appends}
+use Rattle.zy_io.specs.declared.writing.TextFault.{TextFault}
 use Rattle.zy_isa.specs.declared.choice.Choice.{Choice}
 use Rattle.zy_text.specs.Canon.{canon}
 use Rattle.zy_isa.specs.Scenario.{Scenario, IsScenario}
@@ -12,26 +13,39 @@ use Rattle.zy_check.proofs.LawLemmas.{cut-run}
 use Rattle.zy_threads.specs.Orders.{reordered}
 use Rattle.zy_threads.specs.Turns.{IsMerge}
 use Rattle.zy_threads.proofs.MergeLemmas.{merge_scenario}
+use Rattle.zy_machine.specs.Histories.{History}
+use Rattle.zy_engine.specs.declared.format.Format.TheVariants.{Text}
 use Rattle.zy_engine.specs.Again.{RunsAgain}
+use Rattle.zy_engine.specs.Faults.{of_result}
+use Rattle.zy_engine.specs.OnInput.{OnInput}
+use Rattle.zy_engine.specs.Outputs.{WroteRun}
 
 -- a text means one scenario
 means_one : (text : List ℕ) (s t : Scenario) → Means text s → Means text t → s ≡ t
 means_one text s t h k = sym (only_of text _ s (only text s h) h) ∙ only_of text _ t (only text s h) k
 
--- the listing that a text means is the listing of each scenario that it means
-again : (sc : Scenario) (text : List ℕ) (left old new : Option (List ℕ)) → Means text sc → left ≡ Some text
-    → IfSome left (λ told. (t : Scenario) × Means told t × Appends old new (listing_run t)) → Appends old new (listing_run sc)
-again sc text left old new means is wrote =
-    let found : (t : Scenario) × Means text t × Appends old new (listing_run t)
-    = subst (λ (l : Option (List ℕ)). IfSome l (λ told. (t : Scenario) × Means told t × Appends old new (listing_run t))) is wrote in
-    subst (λ (t : Scenario). Appends old new (listing_run t)) (means_one text found.0 sc found.1 means) found.2
+-- a run of the canonical text of a scenario, where it is done, writes the listing of that scenario
+module _ (sc : Scenario) (h : IsScenario sc) (old new : Option (List ℕ)) (before after : ℕ) (machine : History) where
+  -- what it wrote is a listing of a scenario that the text means
+  wrote : (came : Result History TextFault) (s : Scenario) → Ok machine ≡ of_result came → Means (canon sc) s
+      → WroteRun listing_run s old new before after came → Appends old new (listing_run sc)
+  wrote (Ok m) s e means due =
+      subst (λ (t : Scenario). Appends old new (listing_run t)) (means_one (canon sc) s sc means (Means-canon sc h)) due.wrote.0
+  wrote (Err f) s e means due = absurd (cc)
+
+  written_again : OnInput (WroteRun listing_run) Text (canon sc) old new before after (Ok machine) → Appends old new (listing_run sc)
+  written_again on = elim on [
+    | inl done ↦ wrote done.came done.scenario done.reported done.accepted.stands done.due
+    | inr refused ↦ let e = refused.reported in absurd (cc)
+  ]
 
 -- the listing of a scenario gives itself again
 scenario_again : (sc : Scenario) → IsScenario sc → RunsAgain sc
 scenario_again sc h = record {
   part = cut-run sc h;
   means = Means-canon sc h;
-  again = λ old new is c. again sc (canon sc) old.left old.written new.written (Means-canon sc h) (is ∙ ap (λ t. Some t) (cut-run sc h)) c.written;
+  again = λ old new before after machine on. written_again sc h old new before after machine
+      (subst (λ t. OnInput (WroteRun listing_run) Text t old new before after (Ok machine)) (cut-run sc h) on);
 }
 
 -- so does that of a scenario with its choices in another order

@@ -1,6 +1,3 @@
-mod RunLemmas
-mod CheckLemmas
-mod DebugLemmas
 mod MergeLemmas
 mod AgainLemmas
 mod SearchLemmas

@@ -17,7 +17,6 @@ use Rattle.zy_listing.specs.Listing.{listing, ending_texts}
 use Rattle.zy_listing.specs.Lone.{map_of}
 use Rattle.zy_listing.specs.Run.{listing_run}
 use Rattle.zy_listing.specs.SameMaps.{is_serial, same_map}
-use Rattle.zy_threads.specs.Turns.{IsMerge}
 use Rattle.zy_threads.specs.Orders.{reordered, IsRunOf}
 use Rattle.zy_threads.proofs.Reordered.{opening-reordered, play-reordered, entries-reordered}
 
@@ -49,7 +48,3 @@ listing-again h run =
     let order = choices_of h.entries in
     sym (listing-reordered h.scenario order (is_serial h.scenario h.state))
     ∙ ap (listing (reordered h.scenario order) order) (sym (is_serial-reordered h.scenario order h.state) ∙ ap (is_serial (reordered h.scenario order)) run.0)
-
--- where there is no run, the order that the scenario has will do
-pub merge-self : (sc : Scenario) → IsMerge sc.choices sc.choices
-merge-self sc = record { of_c = refl; of_a = refl; of_b = refl }

@@ -86,7 +86,7 @@ nothing_known from sc q = λ cs a lt. absurd (omega (arith, lt))
 
 -- where memory runs out before anything is written, nothing is known
 pub nothing_searched : (o : SearchOptions) (sc : Scenario) (q : Sought) (written : Option (List ℕ)) (failures : ℕ)
-    → WroteAnswer o sc q written written failures failures (Err Memory)
+    → WroteAnswer o q sc written written failures failures (Err Memory)
 nothing_searched o sc q written failures =
     record {
       answer = Spent 0;

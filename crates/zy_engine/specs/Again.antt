@@ -1,19 +1,21 @@
 -- A listing whose scenario part gives that listing.
-use Rattle.std.specs.Prelude.{◌≡◌, Some, Ok}
+use Rattle.std.specs.Prelude.{◌≡◌, ℕ, List, Option, Ok}
 use Rattle.std.specs.Io.KnownBytes.{Appends}
 use Rattle.zy_text.specs.Canon.{canon}
 use Rattle.zy_isa.specs.Scenario.{Scenario}
 use Rattle.zy_text.specs.Text.{Means}
 use Rattle.zy_listing.specs.Run.{listing_run}
 use Rattle.zy_text.specs.Cut.{cut}
+use Rattle.zy_machine.specs.Histories.{History}
 use Rattle.zy_engine.specs.declared.format.Format.TheVariants.{Text}
-use Rattle.zy_engine.specs.Engines.{Streams, Converts}
+use Rattle.zy_engine.specs.OnInput.{OnInput}
+use Rattle.zy_engine.specs.Outputs.{WroteRun}
 
 -- the scenario part of the listing is the scenario's canonical text and means it; and run of that part, where it is
 -- done, writes the listing
 pub record RunsAgain (sc : Scenario) : Type 0 where
   pub part : cut (listing_run sc) ≡ canon sc
   pub means : Means (canon sc) sc
-  pub again : (old new : Streams) → old.left ≡ Some (cut (listing_run sc))
-      → Converts {X = Unit {0}} Text listing_run old new (Ok tt)
-      → Appends old.written new.written (listing_run sc)
+  pub again : (old new : Option (List ℕ)) (before after : ℕ) (machine : History)
+      → OnInput (WroteRun listing_run) Text (cut (listing_run sc)) old new before after (Ok machine)
+      → Appends old new (listing_run sc)

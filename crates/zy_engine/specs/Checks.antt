@@ -1,37 +1,22 @@
--- What `check_bytes` answers and writes.
-use Rattle.std.specs.Prelude.{◌≡◌, ℕ, ◌+◌, List, Option, Result, Ok, Err}
+-- What the engine of a check does: its input is to be the listing of the scenario at its head.
+use Rattle.std.specs.Prelude.{◌≡◌, ◌+◌, ℕ, List, Option, Result, Ok, Err, IfOk}
 use Rattle.std.specs.Io.KnownBytes.{Appends}
 use Rattle.zy_io.specs.Streams.{WrotePrefix}
 use Rattle.zy_io.specs.Writing.{line_of}
 use Rattle.zy_io.specs.declared.writing.TextFault.{TextFault}
 use Rattle.zy_io.specs.declared.writing.TextFault.TheVariants as writing
+use Rattle.zy_isa.specs.Scenario.{Scenario}
+use Rattle.zy_text.specs.Cut.{cut}
+use Rattle.zy_listing.specs.Run.{listing_run}
 use Rattle.zy_check.specs.declared.verdict.Verdict.{Verdict}
-use Rattle.zy_check.specs.Differs.{verdict_text}
+use Rattle.zy_check.specs.Differs.{verdict, verdict_text}
 use Rattle.zy_engine.specs.declared.faults.BenchFault.{BenchFault}
-use Rattle.zy_engine.specs.declared.faults.BenchFault.TheVariants.{Input, Image, TooLong, Read, Write, Memory}
+use Rattle.zy_engine.specs.declared.format.Format.TheVariants.{Text}
+use Rattle.zy_engine.specs.OnInput.{OnInput}
 
 -- the words of a verdict, as they go out
 abbrev pub verdict_line : Verdict → List ℕ
 verdict_line v = line_of (verdict_text v)
-
--- the answer is this verdict, unless a call failed or there was no memory
-abbrev pub GivesVerdict : Result Verdict BenchFault → Verdict → Type 0
-GivesVerdict (Ok v) w = v ≡ w
-GivesVerdict (Err (Input r)) w = ⊥
-GivesVerdict (Err (Image f)) w = ⊥
-GivesVerdict (Err TooLong) w = ⊥
-GivesVerdict (Err Read) w = Unit {0}
-GivesVerdict (Err Write) w = Unit {0}
-GivesVerdict (Err Memory) w = Unit {0}
-
--- a fault that comes before the first byte is written
-abbrev pub IsBefore : BenchFault → Type 0
-IsBefore (Input r) = Unit {0}
-IsBefore (Image f) = Unit {0}
-IsBefore TooLong = Unit {0}
-IsBefore Read = Unit {0}
-IsBefore Write = ⊥
-IsBefore Memory = Unit {0}
 
 -- A call that writes a text went from the bytes old and the number of failures before to new and after.
 module _ (old new : Option (List ℕ)) (before after : ℕ) where
@@ -40,3 +25,13 @@ module _ (old new : Option (List ℕ)) (before after : ℕ) where
   WroteOrNothing (Ok x) text = Appends old new text × (after ≡ before)
   WroteOrNothing (Err writing.Write) text = WrotePrefix old new text × (after ≡ before + 1)
   WroteOrNothing (Err writing.Memory) text = (new ≡ old) × (after ≡ before)
+
+-- a call that writes the verdict on an input and the listing of a scenario, and returns it
+pub record WroteVerdict (input : List ℕ) (sc : Scenario) (old new : Option (List ℕ)) (before after : ℕ)
+    (result : Result Verdict TextFault) : Type 0 where
+  pub returned : IfOk result (λ v. v ≡ verdict input (listing_run sc))
+  pub wrote : WroteOrNothing old new before after result (verdict_line (verdict input (listing_run sc)))
+
+-- it is due for the scenario part of the input
+abbrev pub Checks : List ℕ → Option (List ℕ) → Option (List ℕ) → ℕ → ℕ → Result Verdict BenchFault → Type 0
+Checks input = OnInput (WroteVerdict input) Text (cut input)

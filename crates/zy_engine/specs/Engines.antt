@@ -1,12 +1,9 @@
--- What an engine does: it reads a scenario in a format, and writes something of it.
-use Rattle.std.specs.Prelude.{◌≡◌, ◌≤◌, ◌+◌, ℕ, List, Option, Result, IfErr, IfSome, OnOk}
-use Rattle.std.specs.Io.KnownBytes.{Appends}
-use Rattle.zy_io.specs.Streams.{WrotePrefix, most_read}
-use Rattle.zy_isa.specs.Scenario.{Scenario}
-use Rattle.zy_engine.specs.declared.faults.BenchFault.{BenchFault}
-use Rattle.zy_engine.specs.declared.format.Format.{Format}
-use Rattle.zy_engine.specs.Faults.{ReadsInput, failed_reads, failed_writes, IsQuiet, IfRefused}
-use Rattle.zy_engine.specs.Inputs.{StandsFor, HasNoFault, IsRefusal}
+-- What an engine does: it reads its input, and then does something with the bytes.
+use Rattle.std.specs.Prelude.{◌≡◌, ◌≤◌, ◌+◌, ℕ, List, Option, Result, Ok, Err}
+use Rattle.std.specs.declared.vec.Vec.{Vec}
+use Rattle.std.specs.declared.alloc.Global.{Global}
+use Rattle.zy_io.specs.Streams.{ReadsAll, most_read}
+use Rattle.zy_io.specs.declared.reading.ReadFault.{ReadFault}
 
 -- the bytes that the reader reports and that the writer holds, the calls of each that failed, and how many bytes the
 -- reader's calls gave
@@ -28,28 +25,19 @@ streams left reads given written writes source sink = record {
   given = given source;
 }
 
-pub record Converts {X : Type 0} (format : Format) (output : Scenario → List ℕ) (old new : Streams)
-    (result : Result X BenchFault) : Type 0 where
-  -- at Ok the input stands for a scenario, and exactly its output went out
-  pub written : OnOk result (IfSome old.left (λ bytes. (sc : Scenario) × StandsFor format bytes sc
-      × Appends old.written new.written (output sc)))
-  -- whatever comes, nothing but a prefix of the output of a scenario that the input stands for went out
-  pub prefix : IfSome old.left (λ bytes. (sc : Scenario) → StandsFor format bytes sc
-      → WrotePrefix old.written new.written (output sc))
-  -- a refused input is reported by its first fault
-  pub fault : IfErr result (λ f. IfRefused f (IfSome old.left (λ bytes. IsRefusal format bytes f)))
-  -- the input is read whole; only where it has more than max_input bytes is it too long, and then one byte more is read
-  pub input : ReadsInput old.left new.left result
-  -- what is accepted has no fault
-  pub accepted : OnOk result (IfSome old.left (HasNoFault format))
-  -- before the input is read and accepted nothing is written
-  pub quiet : IfErr result (λ f. IsQuiet f → new.written ≡ old.written)
-  -- where the input stands for no scenario nothing is written, whatever the fault
-  pub silent : IfSome old.left (λ bytes. ((sc : Scenario) → StandsFor format bytes sc → ⊥) → new.written ≡ old.written)
-  -- nor is anything written where it has a fault
-  pub refused : IfSome old.left (λ bytes. (HasNoFault format bytes → ⊥) → new.written ≡ old.written)
-  -- each fault of the reader and of the writer is one failed call
-  pub reads : new.reads ≡ old.reads + failed_reads result
-  pub writes : new.writes ≡ old.writes + failed_writes result
-  -- whatever the reader reports of its bytes, its calls give at most one more than the longest input has
-  pub bound : new.given ≤ old.given + most_read
+-- `Does` is what an engine does with an input in hand, and `report` gives the fault that it reports of one of reading.
+module _ {X E : Type 0} (report : ReadFault → E)
+    (Does : List ℕ → Option (List ℕ) → Option (List ℕ) → ℕ → ℕ → Result X E → Type 0)
+    (old new : Streams) (result : Result X E) where
+  -- that is done with an input that was read whole; else the fault is reported, and nothing is written
+  abbrev pub AfterReading : Result (Vec ℕ Global) ReadFault → Type 0
+  AfterReading (Ok bytes) = Does bytes.items old.written new.written old.writes new.writes result
+  AfterReading (Err f) = (result ≡ Err (report f)) × (new.written ≡ old.written) × (new.writes ≡ old.writes)
+
+  -- it reads its input, and this is what comes after it
+  pub record ReadsInput : Type 0 where
+    pub read : Result (Vec ℕ Global) ReadFault
+    pub came : ReadsAll old.left new.left old.reads new.reads read
+    pub goes_on : AfterReading read
+    -- whatever the reader reports of its bytes, its calls give at most one more than the longest input has
+    pub bound : new.given ≤ old.given + most_read

@@ -1,6 +1,5 @@
 -- What an input stands for, in each format, and its first fault.
-use Rattle.std.specs.Prelude.{◌≡◌, ◌+◌, ℕ, List, Option, Some, None, Result, Ok, Err, IfSome}
-use Rattle.zy_io.specs.Streams.{ReadWhole}
+use Rattle.std.specs.Prelude.{◌≡◌, ℕ, List, Some, None}
 use Rattle.zy_isa.specs.Scenario.{Scenario}
 use Rattle.zy_text.specs.Text.{Means}
 use Rattle.zy_asm.specs.Input.{input_fault}
@@ -11,7 +10,6 @@ use Rattle.zy_engine.specs.declared.format.Format.{Format}
 use Rattle.zy_engine.specs.declared.format.Format.TheVariants as format
 use Rattle.zy_engine.specs.declared.faults.BenchFault.{BenchFault}
 use Rattle.zy_engine.specs.declared.faults.BenchFault.TheVariants.{Input, Image, Memory}
-use Rattle.zy_engine.specs.Faults.{IfRefused, ReadsBefore, reads_failed, writes_failed}
 
 abbrev pub StandsFor : Format → List ℕ → Scenario → Type 0
 StandsFor format.Text bytes s = Means bytes s
@@ -38,24 +36,8 @@ abbrev pub IsRefusal : Format → List ℕ → BenchFault → Type 0
 IsRefusal format.Text bytes f = IsTextFault bytes f
 IsRefusal format.Image bytes f = IsImageFault bytes f
 
--- What a reader reports of its bytes was `was` and is `left` now, and the number of its calls that failed went from
--- before to after.
-module _ (format : Format) (was left : Option (List ℕ)) (before after : ℕ) where
-  -- the input was read whole: it stands for this scenario alone, and has no fault
-  pub record Took (scenario : Scenario) : Type 0 where
-    pub stands : IfSome was (λ bytes. StandsFor format bytes scenario)
-    pub only : IfSome was (λ bytes. (other : Scenario) → StandsFor format bytes other → scenario ≡ other)
-    pub right : IfSome was (HasNoFault format)
-    pub whole : ReadWhole was left
-    pub calls : after ≡ before
-
-  -- it was not read to its end, or it is refused; no call of a writer has failed
-  pub record TookNone (f : BenchFault) : Type 0 where
-    pub fault : IfRefused f (IfSome was (λ bytes. IsRefusal format bytes f))
-    pub input : ReadsBefore was left f
-    pub reads : after ≡ before + reads_failed f
-    pub writes : writes_failed f ≡ 0
-
-  abbrev pub Takes : Result Scenario BenchFault → Type 0
-  Takes (Ok scenario) = Took scenario
-  Takes (Err f) = TookNone f
+-- the input stands for this scenario and for no other, and has no fault
+pub record IsAccepted (format : Format) (input : List ℕ) (scenario : Scenario) : Type 0 where
+  pub stands : StandsFor format input scenario
+  pub only : (other : Scenario) → StandsFor format input other → scenario ≡ other
+  pub right : HasNoFault format input

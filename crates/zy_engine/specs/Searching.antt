@@ -1,5 +1,5 @@
--- What the engine of a search does.
-use Rattle.std.specs.Prelude.{◌≡◌, ◌++◌, ◌⊎◌, ℕ, List, [], Option, Some, None, Result, IfOk, IfSome, take}
+-- What the engine of a search writes.
+use Rattle.std.specs.Prelude.{◌≡◌, ◌++◌, ◌⊎◌, ℕ, List, [], Option, Some, None, Result, IfOk, take}
 use Rattle.zy_io.specs.Writing.{Wrote}
 use Rattle.zy_io.specs.declared.writing.TextFault.{TextFault}
 use Rattle.zy_text.specs.Canon.{canon}
@@ -14,12 +14,9 @@ use Rattle.zy_search.specs.declared.answer.SearchAnswer.TheVariants.{Found, Nowh
 use Rattle.zy_search.specs.declared.answer.SearchReport.{SearchReport}
 use Rattle.zy_search.specs.declared.sought.Sought.{Sought}
 use Rattle.zy_search.specs.Searches.{IsAnswer, IsDue}
-use Rattle.zy_engine.specs.declared.faults.BenchFault.{BenchFault}
 use Rattle.zy_engine.specs.declared.searching.SearchOptions.{SearchOptions}
 use Rattle.zy_engine.specs.declared.wording.Wording.{Wording}
 use Rattle.zy_engine.specs.declared.wording.Wording.TheVariants as wording
-use Rattle.zy_engine.specs.Inputs.{StandsFor}
-use Rattle.zy_engine.specs.Engines.{Streams, Converts}
 
 -- the choices that are steps already taken: a scenario's first ones, where their number is given, or else all
 abbrev pub taken : Option ℕ → Scenario → List Choice
@@ -53,23 +50,10 @@ pub record WroteSome {X : Type 0} (Is : List ℕ → Type 0) (old new : Option (
   pub wrote : Wrote old new before after result text
 
 -- a call that writes a text of an answer, which at Ok is the one that is returned
-pub record WroteAnswer (o : SearchOptions) (sc : Scenario) (q : Sought) (old new : Option (List ℕ))
+pub record WroteAnswer (o : SearchOptions) (q : Sought) (sc : Scenario) (old new : Option (List ℕ))
     (before after : ℕ) (result : Result SearchReport TextFault) : Type 0 where
   pub answer : SearchAnswer
   pub is : IsAnswer (history_of o.from sc) q answer
   pub returned : IfOk result (λ r. r.answer ≡ answer)
   pub due : IfOk result (λ r. IsDue (history_of o.from sc) q o.most r.answer)
   pub wrote : WroteSome (IsTextOf o.wording sc (taken o.from sc) answer) old new before after result
-
--- and the engine: the answer is one for the scenario that the input stands for, and one that gives up is due
-pub record ConvertsSearch (o : SearchOptions) (q : Sought) (old new : Streams) (result : Result SearchReport BenchFault) : Type 0 where
-  pub answer : SearchAnswer
-  pub text : List ℕ
-  pub is : IfSome old.left (λ bytes. (sc : Scenario) → StandsFor o.format bytes sc
-      → IsAnswer (history_of o.from sc) q answer)
-  pub returned : IfOk result (λ r. r.answer ≡ answer)
-  pub due : IfOk result (λ r. IfSome old.left (λ bytes. (sc : Scenario) → StandsFor o.format bytes sc
-      → IsDue (history_of o.from sc) q o.most r.answer))
-  pub says : IfSome old.left (λ bytes. (sc : Scenario) → StandsFor o.format bytes sc
-      → IsTextOf o.wording sc (taken o.from sc) answer text)
-  pub converts : Converts o.format (λ sc. text) old new result

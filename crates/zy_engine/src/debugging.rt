@@ -2,18 +2,18 @@
 ghost use Rattle.std.specs.Prelude.{◌<◌, ◌≤◌};
 ghost use Rattle.zy_text.specs.Words.{lines_of};
 ghost use Rattle.zy_console.specs.Console.{WroteReplies, opened};
-ghost use Rattle.zy_engine.specs.Engines.{streams};
+ghost use Rattle.zy_engine.specs.Engines.{ReadsInput, streams};
+ghost use Rattle.zy_engine.specs.Faults.{of_reading};
 ghost use Rattle.zy_engine.specs.Debugs.{Debugs, max_every, max_ring};
 
 use crate::faults::BenchFault;
-use crate::format::{Format, accept};
+use crate::format::{Format, accept, split_scenario};
 use std::alloc::Global;
 use zy_console::session::write_session;
 use zy_debug::Debugger;
 use zy_io::reading::read_all;
 use zy_io::{Sink, Source, TextFault};
 use zy_isa::Scenario;
-use zy_text::cut::cut_len;
 
 /// The most choices from one kept copy of the machine to the next.
 pub const MAX_EVERY: usize = 4096;
@@ -39,12 +39,29 @@ fn write_replies<K: Sink>(
     write_session(alloc, &mut debugger, commands, sink)
 }
 
-/// Reads an input whole: a scenario text through its first line whose only word is `end`, and below it commands, one a
-/// line. Writes the replies. Nothing is written before the scenario is accepted.
+/// Answers an input: a scenario text through its first line whose only word is `end`, and below it commands, one a line. Writes
+/// the replies. Nothing is written before the scenario is accepted.
 ///
 /// Copies of the machine are kept to replay from, at multiples of `every` and close to the position, and at most `ring`
 /// of them: they change how long a command takes, and no reply.
-/// The bytes that were read are left in `input`.
+pub fn debug_input<K: Sink>(
+    alloc: Global,
+    every: usize,
+    ring: usize,
+    input: &[u8],
+    sink: &mut K,
+) -> Result<(), BenchFault>
+    requires every { 1 ≤ every }
+    requires failures { K.failures sink.old < u64.MAX }
+    ensures { Debugs input.now (K.written sink.old) (K.written sink.new) (K.failures sink.old) (K.failures sink.new) result }
+{
+    let (part, commands) = split_scenario(input);
+    let scenario = accept(alloc, Format::Text, part)?;
+    write_replies(alloc, scenario, every, ring, commands, sink)?;
+    Ok(())
+}
+
+/// Reads an input whole, and then does what `debug_input` does. The bytes that were read are left in `input`.
 pub fn debug_bytes<S: Source, K: Sink>(
     alloc: Global,
     every: usize,
@@ -59,13 +76,8 @@ pub fn debug_bytes<S: Source, K: Sink>(
     requires ring_most { ring ≤ max_ring }
     requires failures { (S.failures source.old < u64.MAX) × (K.failures sink.old < u64.MAX) }
     ensures { let at = streams S.left S.failures S.given K.written K.failures in
-        Debugs (at source.old sink.old) (at source.new sink.new) result }
+        ReadsInput of_reading Debugs (at source.old sink.old) (at source.new sink.new) result }
 {
-    let bytes = read_all(alloc, source)?;
-    *input = bytes;
-    let given = input.as_slice();
-    let (part, commands) = given.split_at(cut_len(given));
-    let scenario = accept(alloc, Format::Text, part)?;
-    write_replies(alloc, scenario, every, ring, commands, sink)?;
-    Ok(())
+    *input = read_all(alloc, source)?;
+    debug_input(alloc, every, ring, input.as_slice(), sink)
 }

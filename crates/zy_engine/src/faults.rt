@@ -1,11 +1,10 @@
 //! Why a run was refused.
 ghost use Rattle.std.specs.Prelude.{◌≡◌};
-ghost use Rattle.zy_engine.specs.Faults.{of_checking, of_image_refusal, of_reading, of_refusal, of_writing, status_of};
+ghost use Rattle.zy_engine.specs.Faults.{of_image_refusal, of_reading, of_refusal, of_writing, status_of};
 
 use std::alloc::AllocError;
 use thiserror::Error;
-use zy_asm::LineFault;
-use zy_check::CheckFault;
+use zy_asm::{AsmKind, LineFault};
 use zy_image::{ImageRefusal, LoadFault};
 use zy_io::{ReadFault, TextFault};
 
@@ -52,7 +51,11 @@ impl From<ReadFault> for BenchFault {
     ghost from_gives = { λ f e. e ≡ of_reading f };
 
     fn from(fault: ReadFault) -> BenchFault {
-        BenchFault::from(CheckFault::from(fault))
+        match fault {
+            ReadFault::Read => BenchFault::Read,
+            ReadFault::TooLong => BenchFault::TooLong,
+            ReadFault::Memory => BenchFault::Memory,
+        }
     }
 }
 
@@ -60,7 +63,10 @@ impl From<LineFault> for BenchFault {
     ghost from_gives = { λ r e. e ≡ of_refusal r };
 
     fn from(refusal: LineFault) -> BenchFault {
-        BenchFault::from(CheckFault::from(refusal))
+        match refusal.reason.kind() {
+            AsmKind::Memory => BenchFault::Memory,
+            _ => BenchFault::Input(refusal),
+        }
     }
 }
 
@@ -71,19 +77,6 @@ impl From<ImageRefusal> for BenchFault {
         match refusal.fault {
             LoadFault::Memory => BenchFault::Memory,
             _ => BenchFault::Image(refusal),
-        }
-    }
-}
-
-impl From<CheckFault> for BenchFault {
-    ghost from_gives = { λ f e. e ≡ of_checking f };
-
-    fn from(fault: CheckFault) -> BenchFault {
-        match fault {
-            CheckFault::Scenario(refusal) => BenchFault::Input(refusal),
-            CheckFault::Read => BenchFault::Read,
-            CheckFault::Memory => BenchFault::Memory,
-            CheckFault::TooLong => BenchFault::TooLong,
         }
     }
 }

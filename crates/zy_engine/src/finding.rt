@@ -1,13 +1,16 @@
 //! The engine that finds the positions of a scenario's run at which a goal is met.
 ghost use Rattle.std.specs.Prelude.{◌<◌, map};
 ghost use Rattle.std.specs.Fmt.{decimal};
-ghost use Rattle.zy_io.specs.Writing.{Wrote};
-ghost use Rattle.zy_engine.specs.Engines.{Converts, streams};
+ghost use Rattle.zy_engine.specs.Engines.{ReadsInput, streams};
+ghost use Rattle.zy_engine.specs.Faults.{of_reading};
 ghost use Rattle.zy_engine.specs.Finding.{positions_text};
+ghost use Rattle.zy_engine.specs.OnInput.{OnInput};
+ghost use Rattle.zy_engine.specs.Outputs.{WroteOutput};
 
 use crate::faults::BenchFault;
-use crate::format::{Format, read_scenario};
+use crate::format::{Format, accept};
 use std::alloc::{AllocError, Global};
+use zy_io::reading::read_all;
 use zy_io::{AllLines, Decimal, Line, LineBuffer, Lines, Section, Sink, Source, TextFault};
 use zy_isa::Scenario;
 use zy_search::Sought;
@@ -38,8 +41,8 @@ fn write_positions<K: Sink>(
     sink: &mut K,
 ) -> Result<usize, TextFault>
     requires { K.failures sink.old < u64.MAX }
-    ensures { Wrote (K.written sink.old) (K.written sink.new) (K.failures sink.old) (K.failures sink.new) result
-        (positions_text sought.now scenario) }
+    ensures { WroteOutput (positions_text sought.now) scenario (K.written sink.old) (K.written sink.new)
+        (K.failures sink.old) (K.failures sink.new) result }
 {
     let positions = along(alloc, scenario, sought)?;
     let mut line = LineBuffer::new(alloc);
@@ -47,8 +50,25 @@ fn write_positions<K: Sink>(
     Ok(positions.len())
 }
 
-/// Reads a scenario whole, makes its choices, and writes the positions at which its state shows what is looked for, one
-/// a line: how many choices are made there. It gives how many there are. The bytes that were read are left in `input`.
+/// Makes the choices of the scenario that an input stands for, and writes the positions at which its state shows what is
+/// looked for, one a line: how many choices are made there. It gives how many there are.
+pub fn find_input<K: Sink>(
+    alloc: Global,
+    format: Format,
+    sought: &Sought,
+    input: &[u8],
+    sink: &mut K,
+) -> Result<usize, BenchFault>
+    requires { K.failures sink.old < u64.MAX }
+    ensures { OnInput (WroteOutput (positions_text sought.now)) format input.now (K.written sink.old) (K.written sink.new)
+        (K.failures sink.old) (K.failures sink.new) result }
+{
+    let scenario = accept(alloc, format, input)?;
+    let count = write_positions(alloc, scenario, sought, sink)?;
+    Ok(count)
+}
+
+/// Reads an input whole, and then does what `find_input` does. The bytes that were read are left in `input`.
 pub fn find_bytes<S: Source, K: Sink>(
     alloc: Global,
     format: Format,
@@ -59,9 +79,9 @@ pub fn find_bytes<S: Source, K: Sink>(
 ) -> Result<usize, BenchFault>
     requires { (S.failures source.old < u64.MAX) × (K.failures sink.old < u64.MAX) }
     ensures { let at = streams S.left S.failures S.given K.written K.failures in
-        Converts format (positions_text sought.now) (at source.old sink.old) (at source.new sink.new) result }
+        ReadsInput of_reading (OnInput (WroteOutput (positions_text sought.now)) format) (at source.old sink.old)
+        (at source.new sink.new) result }
 {
-    let scenario = read_scenario(alloc, format, source, input)?;
-    let count = write_positions(alloc, scenario, sought, sink)?;
-    Ok(count)
+    *input = read_all(alloc, source)?;
+    find_input(alloc, format, sought, input.as_slice(), sink)
 }

@@ -1,17 +1,15 @@
 //! What an input is written in, and the scenario that it stands for.
-ghost use Rattle.std.specs.Prelude.{◌≡◌, ◌<◌, ◌≤◌, ◌+◌, IfErr, IfOk};
-ghost use Rattle.zy_isa.specs.Scenario.{Scenario as AScenario};
-ghost use Rattle.zy_engine.specs.Inputs.{HasNoFault, IsRefusal, StandsFor, Takes};
-ghost use Rattle.zy_io.specs.Streams.{most_read};
+ghost use Rattle.std.specs.Prelude.{◌≡◌, IfErr, IfOk, drop, length};
+ghost use Rattle.zy_text.specs.Cut.{cut};
+ghost use Rattle.zy_engine.specs.Inputs.{IsAccepted, IsRefusal};
 
 use crate::faults::BenchFault;
 use std::alloc::Global;
 use zy_asm::assembling::assemble_bytes;
 use zy_image::ImageRefusal;
 use zy_image::load::load;
-use zy_io::Source;
-use zy_io::reading::read_all;
 use zy_isa::Scenario;
+use zy_text::cut::cut_len;
 
 /// What an input is written in.
 #[derive(Clone, Copy, Debug, PartialEq, Eq)]
@@ -24,10 +22,8 @@ pub enum Format {
 
 /// The scenario that an input stands for.
 pub fn accept(alloc: Global, format: Format, bytes: &[u8]) -> Result<Scenario, BenchFault>
-    // What is accepted stands for the scenario, and has no fault.
-    ensures found { IfOk result (λ s. StandsFor format bytes.now s × HasNoFault format bytes.now) }
-    // It stands for no other.
-    ensures only { IfOk result (λ s. (other : AScenario) → StandsFor format bytes.now other → s ≡ other) }
+    // What is accepted stands for the scenario and for no other, and has no fault.
+    ensures accepted { IfOk result (IsAccepted format bytes.now) }
     // What is refused is reported by its first fault.
     ensures fault { IfErr result (IsRefusal format bytes.now) }
 {
@@ -43,20 +39,11 @@ pub fn accept(alloc: Global, format: Format, bytes: &[u8]) -> Result<Scenario, B
     }
 }
 
-/// Reads an input whole, and gives the scenario that it stands for. The bytes that were read are left in `input`.
-pub fn read_scenario<S: Source>(
-    alloc: Global,
-    format: Format,
-    source: &mut S,
-    input: &mut Vec<u8>,
-) -> Result<Scenario, BenchFault>
-    requires { S.failures source.old < u64.MAX }
-    ensures takes { Takes format (S.left source.old) (S.left source.new) (S.failures source.old)
-        (S.failures source.new) result }
-    // Whatever the reader reports of its bytes, its calls give at most one more than the longest input has.
-    ensures bound { S.given source.new ≤ S.given source.old + most_read }
+/// The scenario part of an input, which is a scenario text through its first line whose only word is `end`, and what is below
+/// it.
+pub fn split_scenario(input: &[u8]) -> (&[u8], &[u8])
+    ensures part { result.0.now ≡ cut input.now }
+    ensures below { result.1.now ≡ drop (length (cut input.now)) input.now }
 {
-    let bytes = read_all(alloc, source)?;
-    *input = bytes;
-    accept(alloc, format, input.as_slice())
+    input.split_at(cut_len(input))
 }

@@ -1,8 +1,6 @@
 //! What the engines write of a scenario.
-ghost use Rattle.std.specs.Prelude.{◌≡◌, ◌<◌, IfOk};
-ghost use Rattle.zy_io.specs.Writing.{Wrote};
-ghost use Rattle.zy_table.specs.Play.{entries, opening, play};
-ghost use Rattle.zy_engine.specs.Outputs.{output_of, shown_of};
+ghost use Rattle.std.specs.Prelude.{◌<◌};
+ghost use Rattle.zy_engine.specs.Outputs.{output_of, shown_of, WroteRun, WroteOutput};
 ghost use Rattle.zy_engine.specs.declared.output.SourceFormat.TheVariants.{Image};
 
 use std::alloc::Global;
@@ -33,13 +31,8 @@ impl RunFormat {
         sink: &mut K,
     ) -> Result<Machine, TextFault>
         requires { K.failures sink.old < u64.MAX }
-        ensures wrote { Wrote (K.written sink.old) (K.written sink.new) (K.failures sink.old)
-            (K.failures sink.new) result (shown_of self scenario) }
-        ensures machine { IfOk result (λ m. m ≡ record {
-          scenario = scenario;
-          state = play scenario (opening scenario) scenario.choices;
-          entries = entries scenario (opening scenario) scenario.choices;
-        }) }
+        ensures { WroteRun (shown_of self) scenario (K.written sink.old) (K.written sink.new) (K.failures sink.old)
+            (K.failures sink.new) result }
     {
         match self {
             RunFormat::Listing => write_run(alloc, scenario, sink),
@@ -66,8 +59,8 @@ impl SourceFormat {
         sink: &mut K,
     ) -> Result<(), TextFault>
         requires { K.failures sink.old < u64.MAX }
-        ensures { Wrote (K.written sink.old) (K.written sink.new) (K.failures sink.old)
-            (K.failures sink.new) result (output_of self scenario) }
+        ensures { WroteOutput (output_of self) scenario (K.written sink.old) (K.written sink.new) (K.failures sink.old)
+            (K.failures sink.new) result }
     {
         match self {
             SourceFormat::Image => write_image(alloc, &scenario, sink),
@@ -79,8 +72,8 @@ impl SourceFormat {
 /// Writes its image, or a prefix of it.
 fn write_image<K: Sink>(alloc: Global, scenario: &Scenario, sink: &mut K) -> Result<(), TextFault>
     requires { K.failures sink.old < u64.MAX }
-    ensures { Wrote (K.written sink.old) (K.written sink.new) (K.failures sink.old)
-        (K.failures sink.new) result (output_of Image scenario.now) }
+    ensures { WroteOutput (output_of Image) scenario.now (K.written sink.old) (K.written sink.new) (K.failures sink.old)
+        (K.failures sink.new) result }
 {
     let image = save(alloc, scenario)?;
     write_all(sink, image.as_slice())?;

@@ -5,17 +5,20 @@ ghost use Rattle.zy_text.specs.Canon.{canon};
 ghost use Rattle.zy_text.specs.Text.{Means};
 ghost use Rattle.zy_threads.specs.Orders.{reordered};
 ghost use Rattle.zy_engine.specs.declared.wording.Wording.TheVariants.{Own};
-ghost use Rattle.zy_engine.specs.Engines.{streams};
-ghost use Rattle.zy_engine.specs.Searching.{history_of, ConvertsSearch, IsTextOf, IsWorded, WroteAnswer, WroteSome};
+ghost use Rattle.zy_engine.specs.Engines.{ReadsInput, streams};
+ghost use Rattle.zy_engine.specs.Faults.{of_reading};
+ghost use Rattle.zy_engine.specs.OnInput.{OnInput};
+ghost use Rattle.zy_engine.specs.Searching.{history_of, IsTextOf, IsWorded, WroteAnswer, WroteSome};
 
 use crate::faults::BenchFault;
-use crate::format::{Format, read_scenario};
+use crate::format::{Format, accept};
 use crate::same::same_scenario;
 use crate::wording::{Wording, reworded};
 use std::alloc::{AllocError, Global};
 use std::thread::Threads;
 use zy_asm::assembling::assemble_bytes;
 use zy_disasm::ScenarioHead;
+use zy_io::reading::read_all;
 use zy_io::writing::write_all;
 use zy_io::{AllLines, LineBuffer, MAX_INPUT, One, Section, Sink, Source, TextFault, sections};
 use zy_isa::{Choice, Scenario};
@@ -218,7 +221,7 @@ fn write_search<R: Threads + Sync, K: Sink, W: Watch>(
     watch: &mut W,
 ) -> Result<SearchReport, TextFault>
     requires { K.failures sink.old < u64.MAX }
-    ensures { WroteAnswer options scenario sought (K.written sink.old) (K.written sink.new) (K.failures sink.old)
+    ensures { WroteAnswer options sought scenario (K.written sink.old) (K.written sink.new) (K.failures sink.old)
         (K.failures sink.new) result }
 {
     let machine = run_taken(alloc, scenario, options.from)?;
@@ -231,10 +234,28 @@ fn write_search<R: Threads + Sync, K: Sink, W: Watch>(
     Ok(report)
 }
 
-/// Reads a scenario whole, makes the choices that are steps already taken, and looks for a state that further ones lead
-/// to and that shows what is sought. Where there is one, the scenario goes out with these choices and a shortest list of
-/// further ones behind them; else nothing does. The watch learns how far the search is.
-/// The bytes that were read are left in `input`.
+/// Makes the choices that are steps already taken of the scenario that an input stands for, and looks for a state that further
+/// ones lead to and that shows what is sought. Where there is one, the scenario goes out with these choices and a shortest list
+/// of further ones behind them; else nothing does. The watch learns how far the search is.
+pub fn search_input<R: Threads + Sync, K: Sink, W: Watch>(
+    rt: &R,
+    alloc: Global,
+    options: SearchOptions,
+    sought: Sought,
+    input: &[u8],
+    sink: &mut K,
+    watch: &mut W,
+) -> Result<SearchReport, BenchFault>
+    requires { K.failures sink.old < u64.MAX }
+    ensures { OnInput (WroteAnswer options sought) options.format input.now (K.written sink.old) (K.written sink.new)
+        (K.failures sink.old) (K.failures sink.new) result }
+{
+    let scenario = accept(alloc, options.format, input)?;
+    let report = write_search(rt, alloc, options, input, scenario, sought, sink, watch)?;
+    Ok(report)
+}
+
+/// Reads an input whole, and then does what `search_input` does. The bytes that were read are left in `input`.
 pub fn search_bytes<R: Threads + Sync, S: Source, K: Sink, W: Watch>(
     rt: &R,
     alloc: Global,
@@ -247,18 +268,9 @@ pub fn search_bytes<R: Threads + Sync, S: Source, K: Sink, W: Watch>(
 ) -> Result<SearchReport, BenchFault>
     requires { (S.failures source.old < u64.MAX) × (K.failures sink.old < u64.MAX) }
     ensures { let at = streams S.left S.failures S.given K.written K.failures in
-        ConvertsSearch options sought (at source.old sink.old) (at source.new sink.new) result }
+        ReadsInput of_reading (OnInput (WroteAnswer options sought) options.format) (at source.old sink.old)
+        (at source.new sink.new) result }
 {
-    let scenario = read_scenario(alloc, options.format, source, input)?;
-    let report = write_search(
-        rt,
-        alloc,
-        options,
-        input.as_slice(),
-        scenario,
-        sought,
-        sink,
-        watch,
-    )?;
-    Ok(report)
+    *input = read_all(alloc, source)?;
+    search_input(rt, alloc, options, sought, input.as_slice(), sink, watch)
 }

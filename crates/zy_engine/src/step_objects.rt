@@ -1,13 +1,15 @@
 //! The engine that writes the steps of a run as objects of JSON, each of which is a line of a log.
-ghost use Rattle.std.specs.Prelude.{◌≡◌, ◌<◌, IfOk, map};
-ghost use Rattle.zy_io.specs.Writing.{Wrote};
-ghost use Rattle.zy_table.specs.Play.{entries, opening, play};
-ghost use Rattle.zy_engine.specs.Engines.{Converts, streams};
+ghost use Rattle.std.specs.Prelude.{◌<◌, map};
+ghost use Rattle.zy_engine.specs.Engines.{ReadsInput, streams};
+ghost use Rattle.zy_engine.specs.Faults.{of_reading};
+ghost use Rattle.zy_engine.specs.OnInput.{OnInput};
+ghost use Rattle.zy_engine.specs.Outputs.{WroteRun};
 ghost use Rattle.zy_engine.specs.StepObjects.{action_text, object_text, objects_text};
 
 use crate::faults::BenchFault;
-use crate::format::{Format, read_scenario};
+use crate::format::{Format, accept};
 use std::alloc::{AllocError, Global};
+use zy_io::reading::read_all;
 use zy_io::{AllLines, Decimal, Line, LineBuffer, Lines, Section, Sink, Source, TextFault, joined};
 use zy_isa::{Choice, Scenario};
 use zy_json::PlainStep;
@@ -81,13 +83,8 @@ fn write_objects<K: Sink>(
     sink: &mut K,
 ) -> Result<Machine, TextFault>
     requires { K.failures sink.old < u64.MAX }
-    ensures wrote { Wrote (K.written sink.old) (K.written sink.new) (K.failures sink.old) (K.failures sink.new) result
-        (objects_text scenario) }
-    ensures machine { IfOk result (λ m. m ≡ record {
-      scenario = scenario;
-      state = play scenario (opening scenario) scenario.choices;
-      entries = entries scenario (opening scenario) scenario.choices;
-    }) }
+    ensures { WroteRun objects_text scenario (K.written sink.old) (K.written sink.new) (K.failures sink.old)
+        (K.failures sink.new) result }
 {
     let machine = Machine::run_all(alloc, scenario)?;
     let mut line = LineBuffer::new(alloc);
@@ -95,8 +92,24 @@ fn write_objects<K: Sink>(
     Ok(machine)
 }
 
-/// Reads a scenario whole, makes its choices, writes the object of each step on a line of its own, in the order of the steps,
-/// and gives the machine that has made them. The bytes that were read are left in `input`.
+/// Makes the choices of the scenario that an input stands for, writes the object of each step on a line of its own, in the order
+/// of the steps, and gives the machine that has made them.
+pub fn objects_input<K: Sink>(
+    alloc: Global,
+    format: Format,
+    input: &[u8],
+    sink: &mut K,
+) -> Result<Machine, BenchFault>
+    requires { K.failures sink.old < u64.MAX }
+    ensures { OnInput (WroteRun objects_text) format input.now (K.written sink.old) (K.written sink.new)
+        (K.failures sink.old) (K.failures sink.new) result }
+{
+    let scenario = accept(alloc, format, input)?;
+    let machine = write_objects(alloc, scenario, sink)?;
+    Ok(machine)
+}
+
+/// Reads an input whole, and then does what `objects_input` does. The bytes that were read are left in `input`.
 pub fn objects_bytes<S: Source, K: Sink>(
     alloc: Global,
     format: Format,
@@ -106,9 +119,8 @@ pub fn objects_bytes<S: Source, K: Sink>(
 ) -> Result<Machine, BenchFault>
     requires { (S.failures source.old < u64.MAX) × (K.failures sink.old < u64.MAX) }
     ensures { let at = streams S.left S.failures S.given K.written K.failures in
-        Converts format objects_text (at source.old sink.old) (at source.new sink.new) result }
+        ReadsInput of_reading (OnInput (WroteRun objects_text) format) (at source.old sink.old) (at source.new sink.new) result }
 {
-    let scenario = read_scenario(alloc, format, source, input)?;
-    let machine = write_objects(alloc, scenario, sink)?;
-    Ok(machine)
+    *input = read_all(alloc, source)?;
+    objects_input(alloc, format, input.as_slice(), sink)
 }

@@ -1,13 +1,16 @@
 //! The engine of a run by three threads.
 ghost use Rattle.std.specs.Prelude.{◌<◌};
-ghost use Rattle.zy_engine.specs.Engines.{streams};
-ghost use Rattle.zy_engine.specs.Threads.{WroteMerge, ConvertsMerged};
+ghost use Rattle.zy_engine.specs.Engines.{ReadsInput, streams};
+ghost use Rattle.zy_engine.specs.Faults.{of_reading};
+ghost use Rattle.zy_engine.specs.OnInput.{OnInput};
+ghost use Rattle.zy_engine.specs.Threads.{WroteMerge};
 
 use crate::faults::BenchFault;
-use crate::format::{Format, read_scenario};
+use crate::format::{Format, accept};
 use std::alloc::Global;
 use std::sync::Wait;
 use std::thread::Threads;
+use zy_io::reading::read_all;
 use zy_io::{Sink, Source, TextFault};
 use zy_isa::Scenario;
 use zy_listing::listing::write_listing;
@@ -33,10 +36,26 @@ fn write_threads<R: Threads + Wait + Sync, G: Gate + Sync, K: Sink>(
     Ok(machine)
 }
 
-/// Reads a scenario whole, makes its choices by three threads, writes its listing in the order that they took, and
-/// gives the machine that has made them. Nothing is written before the input is read to its end and found to be a
-/// scenario.
-/// The bytes that were read are left in `input`.
+/// Makes the choices of the scenario that an input stands for by three threads, writes its listing in the order that they
+/// took, and gives the machine that has made them.
+pub fn threads_input<K: Sink, R: Threads + Wait + Sync, G: Gate + Sync>(
+    rt: &R,
+    alloc: Global,
+    format: Format,
+    input: &[u8],
+    sink: &mut K,
+    gate: &G,
+) -> Result<Machine, BenchFault>
+    requires { K.failures sink.old < u64.MAX }
+    ensures { OnInput WroteMerge format input.now (K.written sink.old) (K.written sink.new)
+        (K.failures sink.old) (K.failures sink.new) result }
+{
+    let scenario = accept(alloc, format, input)?;
+    let machine = write_threads(rt, alloc, scenario, gate, sink)?;
+    Ok(machine)
+}
+
+/// Reads an input whole, and then does what `threads_input` does. The bytes that were read are left in `input`.
 pub fn threads_bytes<S: Source, K: Sink, R: Threads + Wait + Sync, G: Gate + Sync>(
     rt: &R,
     alloc: Global,
@@ -48,9 +67,8 @@ pub fn threads_bytes<S: Source, K: Sink, R: Threads + Wait + Sync, G: Gate + Syn
 ) -> Result<Machine, BenchFault>
     requires { (S.failures source.old < u64.MAX) × (K.failures sink.old < u64.MAX) }
     ensures { let at = streams S.left S.failures S.given K.written K.failures in
-        ConvertsMerged format (at source.old sink.old) (at source.new sink.new) result }
+        ReadsInput of_reading (OnInput WroteMerge format) (at source.old sink.old) (at source.new sink.new) result }
 {
-    let scenario = read_scenario(alloc, format, source, input)?;
-    let machine = write_threads(rt, alloc, scenario, gate, sink)?;
-    Ok(machine)
+    *input = read_all(alloc, source)?;
+    threads_input(rt, alloc, format, input.as_slice(), sink, gate)
 }

@@ -1,10 +1,9 @@
 -- The lines below a scenario, as they are read.
-use Rattle.std.proofs.Common.{◌≡◌, ◌∙◌, ℕ, List, Result, Ok, Err, None, ap, subst, arith, length, take, drop}
+use Rattle.std.proofs.Common.{◌≡◌, ℕ, List, Result, Ok, Err, None, ap, subst, arith, length}
 use Rattle.std.specs.declared.vec.Vec.{Vec}
 use Rattle.std.specs.declared.alloc.Global.{Global}
 use Rattle.zy_isa.specs.Scenario.{Scenario, IsScenario, AreNamed}
 use Rattle.zy_text.specs.Cut.{cut}
-use Rattle.zy_text.proofs.CutLemmas.{cut_taken}
 use Rattle.zy_logs.specs.declared.faults.LogFault.{LogFault}
 use Rattle.zy_logs.specs.declared.faults.LogFault.TheVariants.{Refused, Memory}
 use Rattle.zy_logs.specs.declared.logs.NumberedLine.{NumberedLine}
@@ -34,15 +33,7 @@ read_of gap text lines sc txns are most first r enough number is =
 
 -- ---- the parts of an input
 
--- the front that the code cuts off is the scenario part
-pub text_is : (input text : List ℕ) (n : ℕ) → text ≡ take n input → n ≡ length (cut input) → text ≡ cut input
-text_is input text n front cuts = front ∙ (ap (λ k. take k input) cuts ∙ cut_taken input)
-
--- and the rest is what is below it
-pub below_is : (input lines : List ℕ) (n : ℕ) → lines ≡ drop n input → n ≡ length (cut input) → lines ≡ below input
-below_is input lines n back cuts = back ∙ ap (λ k. drop k input) cuts
-
--- so what was read of these is what the input says
+-- what was read of the parts of an input is what the input says
 pub reads_cut : (f : LogFormat) (gap : ℕ) (input text lines : List ℕ) (sc : Scenario) (r : Result (Vec NumberedLine Global) BelowFault) → text ≡ cut input
     → lines ≡ below input → ReadsBelow f gap text lines sc r → ReadsBelow f gap (cut input) (below input) sc r
 reads_cut f gap input text lines sc r front back is =

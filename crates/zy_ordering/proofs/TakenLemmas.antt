@@ -1,5 +1,5 @@
 -- The steps that a machine has made of all choices of its scenario.
-use Rattle.std.proofs.Common.{◌≡◌, ◌∙◌, ◌≤◌, ◌∷◌, ℕ, suc, List, [], Option, None, Some, IfSome, refl, sym, ap, subst, arith, length, take}
+use Rattle.std.proofs.Common.{◌≡◌, ◌∙◌, ◌≤◌, ◌∷◌, ℕ, suc, List, [], Option, None, Some, refl, sym, ap, subst, arith, length, take}
 use Rattle.std.proofs.Math.Seq.{take-length}
 use Rattle.zy_isa.specs.declared.choice.Choice.{Choice}
 use Rattle.zy_isa.specs.Scenario.{Scenario}
@@ -30,15 +30,3 @@ ran_all h ran =
 -- a machine that is that of a scenario is that of its own
 pub ran_own : (h : History) (sc : Scenario) → h ≡ history_of None sc → h ≡ history_of None h.scenario
 ran_own h sc e = subst (λ (k : History). k ≡ history_of None k.scenario) (sym e) refl
-
--- ---- the bytes that a reader reports
-
--- what holds of the bytes that were read holds of those that the reader reports
-pub told_of : (P : List ℕ → Type 0) (told : Option (List ℕ)) (bytes : List ℕ) → IfSome told (λ t. bytes ≡ t) → P bytes → IfSome told P
-told_of P None bytes same h = tt
-told_of P (Some t) bytes same h = subst P same h
-
--- what holds of all bytes holds of those that the reader reports
-pub of_any : (P : List ℕ → Type 0) (told : Option (List ℕ)) → ((t : List ℕ) → P t) → IfSome told P
-of_any P None h = tt
-of_any P (Some t) h = h t

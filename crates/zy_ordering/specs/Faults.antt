@@ -1,6 +1,6 @@
 -- The faults of the engine.
-use Rattle.std.specs.Prelude.{ℕ, List, Option, Result, Ok, Err}
-use Rattle.zy_io.specs.Streams.{ReadWhole}
+use Rattle.std.specs.Prelude.{ℕ, Result, Ok, Err}
+use Rattle.zy_io.specs.declared.reading.ReadFault.{ReadFault}
 use Rattle.zy_logs.specs.declared.faults.LogFault.{LogFault}
 use Rattle.zy_logs.specs.declared.faults.LogFault.TheVariants as reading
 use Rattle.zy_json.specs.declared.faults.JsonLogFault.{JsonLogFault}
@@ -32,29 +32,17 @@ status_of (Bench f) = engine.status_of f
 status_of (Log r) = 1
 status_of (Json r) = 1
 
--- what was read of the input in all, where its bytes went from old to new: where a line below the scenario is refused, all
-abbrev pub ReadsInput : {X : Type 0} → Option (List ℕ) → Option (List ℕ) → Result X OrderFault → Type 0
-ReadsInput old new (Ok x) = ReadWhole old new
-ReadsInput old new (Err (Bench f)) = engine.ReadsBefore old new f
-ReadsInput old new (Err (Log r)) = ReadWhole old new
-ReadsInput old new (Err (Json r)) = ReadWhole old new
-
--- how many calls of the reader failed
-abbrev pub failed_reads : {X : Type 0} → Result X OrderFault → ℕ
-failed_reads (Ok x) = 0
-failed_reads (Err (Bench f)) = engine.reads_failed f
-failed_reads (Err (Log r)) = 0
-failed_reads (Err (Json r)) = 0
+-- the fault that is reported of one of reading
+abbrev pub of_reading : ReadFault → OrderFault
+of_reading f = Bench (engine.of_reading f)
 
 -- how many calls of the writer failed or took no byte
 abbrev pub failed_writes : {X : Type 0} → Result X OrderFault → ℕ
-failed_writes (Ok x) = 0
-failed_writes (Err (Bench f)) = engine.writes_failed f
-failed_writes (Err (Log r)) = 0
-failed_writes (Err (Json r)) = 0
+failed_writes (Err (Bench bench.Write)) = 1
+failed_writes _ = 0
 
 -- a fault after which nothing was written
 abbrev pub IsQuiet : OrderFault → Type 0
-IsQuiet (Bench f) = engine.IsQuiet f
-IsQuiet (Log r) = Unit {0}
-IsQuiet (Json r) = Unit {0}
+IsQuiet (Bench bench.Write) = ⊥
+IsQuiet (Bench bench.Memory) = ⊥
+IsQuiet _ = Unit {0}

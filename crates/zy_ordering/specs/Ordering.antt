@@ -1,10 +1,10 @@
 -- What the engine does: it reads a scenario and logs below it, and writes the scenario with an order of them.
-use Rattle.std.specs.Prelude.{◌≡◌, ◌==◌, ◌≤◌, ◌+◌, ◌-◌, ◌++◌, ◌⊎◌, ℕ, List, [], Option, None, Result, Ok, Err, IfOk, IfErr, IfSome}
+use Rattle.std.specs.Prelude.{◌≡◌, ◌==◌, ◌≤◌, ◌+◌, ◌-◌, ◌++◌, ◌⊎◌, ℕ, List, [], Option, None, Result, Ok, Err, IfOk, IfErr}
 use Rattle.std.specs.Prelude.{count_by, drop, length}
 use Rattle.std.specs.declared.vec.Vec.{Vec}
 use Rattle.std.specs.declared.alloc.Global.{Global}
 use Rattle.std.specs.Io.KnownBytes.{Appends}
-use Rattle.zy_io.specs.Streams.{ReadWhole, WrotePrefix, most_read}
+use Rattle.zy_io.specs.Streams.{WrotePrefix}
 use Rattle.zy_io.specs.declared.writing.TextFault.{TextFault}
 use Rattle.zy_io.specs.declared.writing.TextFault.TheVariants.{Write, Memory}
 use Rattle.zy_isa.specs.Limits.{max_choices}
@@ -29,8 +29,7 @@ use Rattle.zy_order.specs.declared.answer.OrderReport.{OrderReport}
 use Rattle.zy_order.specs.declared.gaps.Gaps.{Gaps}
 use Rattle.zy_order.specs.Answers.{IsAnswer}
 use Rattle.zy_engine.specs.declared.wording.Wording.{Wording}
-use Rattle.zy_engine.specs.Engines.{Streams}
-use Rattle.zy_engine.specs.Faults.{IfRefused}
+use Rattle.zy_engine.specs.declared.faults.BenchFault.TheVariants as bench
 use Rattle.zy_engine.specs.Inputs.{IsTextFault}
 use Rattle.zy_engine.specs.Searching.{history_of, IsWorded}
 use Rattle.zy_ordering.specs.declared.faults.BelowFault.{BelowFault}
@@ -40,7 +39,7 @@ use Rattle.zy_ordering.specs.declared.faults.OrderFault.{OrderFault}
 use Rattle.zy_ordering.specs.declared.faults.OrderFault.TheVariants.{Bench, Log, Json}
 use Rattle.zy_ordering.specs.declared.log_format.LogFormat.{LogFormat}
 use Rattle.zy_ordering.specs.declared.log_format.LogFormat.TheVariants as format
-use Rattle.zy_ordering.specs.Faults.{ReadsInput, failed_reads, failed_writes, IsQuiet}
+use Rattle.zy_ordering.specs.Faults.{failed_writes, IsQuiet}
 use Rattle.zy_ordering.specs.Missing.{AreGapsIn}
 use Rattle.zy_ordering.specs.Names.{names_of}
 
@@ -125,9 +124,9 @@ pub record IsAnswerTo (o : OrderOptions) (input : List ℕ) (a : OrderAnswer) (t
   pub says : SaysIn o.logs o.gap (cut input) (below input) scenario (Ok lines)
   pub is : IsAnswerOf o scenario lines a text
 
--- the fault is the first one of an input; or it is none of an input
+-- the fault is the first one of an input, or that there was no memory, or that a call of the writer failed
 abbrev pub IsFaultOf : OrderOptions → List ℕ → OrderFault → Type 0
-IsFaultOf o input (Bench f) = IfRefused f (IsTextFault (cut input) f)
+IsFaultOf o input (Bench f) = IsTextFault (cut input) f ⊎ (f ≡ bench.Write)
 IsFaultOf o input (Log r) = (sc : Scenario) × Means (cut input) sc × SaysIn o.logs o.gap (cut input) (below input) sc (Err r)
 IsFaultOf o input (Json r) = (sc : Scenario) × Means (cut input) sc × IsNoObject o.logs (cut input) (below input) r
 
@@ -148,37 +147,16 @@ WroteOrder Is old new before after (Ok r) = WroteText Is old new r.answer × (af
 WroteOrder Is old new before after (Err Write) = WrotePart Is old new × (after ≡ before + 1)
 WroteOrder Is old new before after (Err Memory) = WrotePart Is old new × (after ≡ before)
 
--- a call that answers of an input
+-- the engine, on an input in hand
 pub record Answers (o : OrderOptions) (input : List ℕ) (old new : Option (List ℕ)) (before after : ℕ)
     (result : Result OrderReport OrderFault) : Type 0 where
-  -- at Ok exactly a text of the answer went out
+  -- at Ok the answer is one for what the input means, and exactly a text of it went out
   pub answered : IfOk result (λ r. WroteText (IsAnswerTo o input) old new r.answer)
-  -- whatever comes, nothing but a prefix of a text of an answer did
+  -- whatever comes, nothing but a prefix of a text of an answer went out
   pub part : WrotePart (IsAnswerTo o input) old new
   -- a refused input is reported by its first fault
   pub fault : IfErr result (IsFaultOf o input)
-  -- before the input is read and accepted nothing is written
+  -- before the input is accepted nothing is written
   pub quiet : IfErr result (λ f. IsQuiet f → new ≡ old)
-  -- each fault of the writer is one failed call, and there is none of the reader
+  -- each fault of the writer is one failed call
   pub writes : after ≡ before + failed_writes result
-  pub reads : failed_reads result ≡ 0
-  pub whole : (x y : Option (List ℕ)) → ReadWhole x y → ReadsInput x y result
-
--- the engine, which reads the input too
-pub record ConvertsOrder (o : OrderOptions) (old new : Streams) (result : Result OrderReport OrderFault) : Type 0 where
-  -- at Ok the answer is one for what the input means, and exactly a text of it went out
-  pub answered : IfOk result (λ r. IfSome old.left (λ input.
-      WroteText (IsAnswerTo o input) old.written new.written r.answer))
-  -- whatever comes, nothing but a prefix of a text of an answer went out
-  pub part : IfSome old.left (λ input. WrotePart (IsAnswerTo o input) old.written new.written)
-  -- a refused input is reported by its first fault
-  pub fault : IfErr result (λ f. IfSome old.left (λ input. IsFaultOf o input f))
-  -- the input is read whole; only where it has more than max_input bytes is it too long, and then one byte more is read
-  pub input : ReadsInput old.left new.left result
-  -- before the input is read and accepted nothing is written
-  pub quiet : IfErr result (λ f. IsQuiet f → new.written ≡ old.written)
-  -- each fault of the reader and of the writer is one failed call
-  pub reads : new.reads ≡ old.reads + failed_reads result
-  pub writes : new.writes ≡ old.writes + failed_writes result
-  -- whatever the reader reports of its bytes, its calls give at most one more than the longest input has
-  pub bound : new.given ≤ old.given + most_read

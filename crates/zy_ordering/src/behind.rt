@@ -1,17 +1,17 @@
 //! Writes the scenario of an input with choices behind its own.
-ghost use Rattle.std.specs.Prelude.{◌≡◌, ◌<◌, OnOk};
-ghost use Rattle.zy_engine.specs.Searching.{IsWorded, WroteSome};
+ghost use Rattle.std.specs.Prelude.{◌<◌};
+ghost use Rattle.zy_text.specs.Cut.{cut};
+ghost use Rattle.zy_engine.specs.declared.format.Format.TheVariants.{Text};
+ghost use Rattle.zy_engine.specs.OnInput.{OnInput};
 ghost use Rattle.zy_ordering.specs.Behind.{WroteBehind};
-ghost use Rattle.zy_ordering.specs.Runs.{extended};
 
 use std::alloc::Global;
-use zy_engine::format::accept;
+use zy_engine::format::{accept, split_scenario};
 use zy_engine::searching::write_found;
 use zy_engine::{BenchFault, Format, Wording};
 use zy_io::{Sink, TextFault};
 use zy_isa::{Choice, Scenario};
 use zy_machine::Machine;
-use zy_text::cut::cut_len;
 
 /// Writes a text of a scenario, whose own text is at hand, with choices behind its own.
 fn write_extended<K: Sink>(
@@ -23,8 +23,8 @@ fn write_extended<K: Sink>(
     sink: &mut K,
 ) -> Result<(), TextFault>
     requires { K.failures sink.old < u64.MAX }
-    ensures { WroteSome (IsWorded wording (extended scenario choices.now))
-        (K.written sink.old) (K.written sink.new) (K.failures sink.old) (K.failures sink.new) result }
+    ensures { WroteBehind wording choices.now scenario (K.written sink.old) (K.written sink.new) (K.failures sink.old)
+        (K.failures sink.new) result }
 {
     let machine = Machine::run_all(alloc, scenario)?;
     write_found(alloc, wording, text, &machine, choices, sink)
@@ -40,10 +40,10 @@ pub fn write_behind<K: Sink>(
     sink: &mut K,
 ) -> Result<(), BenchFault>
     requires { K.failures sink.old < u64.MAX }
-    ensures wrote { WroteBehind wording input.now choices.now (K.written sink.old) (K.written sink.new) result }
-    ensures calls { OnOk result (K.failures sink.new ≡ K.failures sink.old) }
+    ensures { OnInput (WroteBehind wording choices.now) Text (cut input.now) (K.written sink.old) (K.written sink.new)
+        (K.failures sink.old) (K.failures sink.new) result }
 {
-    let (text, _) = input.split_at(cut_len(input));
+    let (text, _) = split_scenario(input);
     let scenario = accept(alloc, Format::Text, text)?;
     write_extended(alloc, wording, text, scenario, choices, sink)?;
     Ok(())

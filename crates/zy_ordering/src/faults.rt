@@ -1,8 +1,8 @@
 //! Why no order was looked for.
 ghost use Rattle.std.specs.Prelude.{◌≡◌};
-ghost use Rattle.zy_engine.specs.Faults.{of_reading, of_writing};
+ghost use Rattle.zy_engine.specs.Faults.{of_writing};
 ghost use Rattle.zy_ordering.specs.declared.faults.OrderFault.TheVariants.{Bench};
-ghost use Rattle.zy_ordering.specs.Faults.{of_below, of_logs, of_objects, status_of};
+ghost use Rattle.zy_ordering.specs.Faults.{of_below, of_logs, of_objects, of_reading, status_of};
 
 use std::alloc::AllocError;
 use std::fmt;
@@ -72,7 +72,7 @@ impl From<BenchFault> for OrderFault {
 }
 
 impl From<zy_io::ReadFault> for OrderFault {
-    ghost from_gives = { λ f e. e ≡ Bench (of_reading f) };
+    ghost from_gives = { λ f e. e ≡ of_reading f };
 
     fn from(fault: zy_io::ReadFault) -> OrderFault {
         OrderFault::Bench(BenchFault::from(fault))

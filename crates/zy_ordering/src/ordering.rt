@@ -1,16 +1,17 @@
 //! The engine that looks for an order of logs.
 ghost use Rattle.std.specs.Prelude.{◌≡◌, ◌<◌, ◌≤◌, None, length};
 ghost use Rattle.zy_io.specs.Streams.{max_input};
-ghost use Rattle.zy_engine.specs.Engines.{streams};
+ghost use Rattle.zy_engine.specs.Engines.{ReadsInput, streams};
 ghost use Rattle.zy_engine.specs.Searching.{history_of, WroteSome};
-ghost use Rattle.zy_ordering.specs.Ordering.{Answers, CanFollow, ConvertsOrder, IsAnswerOf, IsTextOf, WroteOrder};
+ghost use Rattle.zy_ordering.specs.Faults.{of_reading};
+ghost use Rattle.zy_ordering.specs.Ordering.{Answers, CanFollow, IsAnswerOf, IsTextOf, WroteOrder};
 
 use crate::faults::OrderFault;
 use crate::logs_below::{read_below, steps};
 use crate::missing::gaps;
 use crate::options::OrderOptions;
 use std::alloc::Global;
-use zy_engine::format::accept;
+use zy_engine::format::{accept, split_scenario};
 use zy_engine::searching::write_found;
 use zy_engine::{Format, Wording};
 use zy_io::reading::read_all;
@@ -20,7 +21,6 @@ use zy_logs::NumberedLine;
 use zy_machine::Machine;
 use zy_order::order::order;
 use zy_order::{OrderAnswer, OrderReport, Watch};
-use zy_text::cut::cut_len;
 
 /// Writes what goes out of an answer: of a machine that has made all choices of its scenario, whose text is at hand.
 fn write_answer<K: Sink>(
@@ -67,8 +67,11 @@ fn write_order<K: Sink, W: Watch>(
     Ok(report)
 }
 
-/// Answers of an input: a scenario text through its end line, and below it lines of logs.
-fn answer<K: Sink, W: Watch>(
+/// Answers an input: a scenario text through its first line whose only word is `end`, and below it lines of three logs, mixed in
+/// any way. The scenario's own choices are steps already taken. Looks for an order of the logs behind them, and where there is
+/// one, the scenario goes out with its choices and those of the order behind them; else nothing does. The watch learns how far
+/// the search is.
+pub fn order_input<K: Sink, W: Watch>(
     alloc: Global,
     options: OrderOptions,
     input: &[u8],
@@ -80,17 +83,14 @@ fn answer<K: Sink, W: Watch>(
     ensures { Answers options input.now (K.written sink.old) (K.written sink.new) (K.failures sink.old)
         (K.failures sink.new) result }
 {
-    let (text, below) = input.split_at(cut_len(input));
+    let (text, below) = split_scenario(input);
     let scenario = accept(alloc, Format::Text, text)?;
     let lines = read_below(alloc, options.logs, options.gap, &scenario, text, below)?;
     let report = write_order(alloc, options, text, scenario, &lines, sink, watch)?;
     Ok(report)
 }
 
-/// Reads an input whole: a scenario text through its first line whose only word is `end`, and below it lines of three logs,
-/// mixed in any way. The scenario's own choices are steps already taken. Looks for an order of the logs behind them, and
-/// where there is one, the scenario goes out with its choices and those of the order behind them; else nothing does.
-/// The watch learns how far the search is. The bytes that were read are left in `input`.
+/// Reads an input whole, and then does what `order_input` does. The bytes that were read are left in `input`.
 pub fn order_bytes<S: Source, K: Sink, W: Watch>(
     alloc: Global,
     options: OrderOptions,
@@ -101,9 +101,8 @@ pub fn order_bytes<S: Source, K: Sink, W: Watch>(
 ) -> Result<OrderReport, OrderFault>
     requires { (S.failures source.old < u64.MAX) × (K.failures sink.old < u64.MAX) }
     ensures { let at = streams S.left S.failures S.given K.written K.failures in
-        ConvertsOrder options (at source.old sink.old) (at source.new sink.new) result }
+        ReadsInput of_reading (Answers options) (at source.old sink.old) (at source.new sink.new) result }
 {
-    let bytes = read_all(alloc, source)?;
-    *input = bytes;
-    answer(alloc, options, input.as_slice(), sink, watch)
+    *input = read_all(alloc, source)?;
+    order_input(alloc, options, input.as_slice(), sink, watch)
 }

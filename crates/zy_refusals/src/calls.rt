@@ -4,7 +4,6 @@ ghost use Rattle.std.specs.Prelude.{◌≡◌, IfOk, Ok};
 use crate::digest::Digest;
 use std::alloc::AllocError;
 use zy_asm::{AsmKind, LineFault};
-use zy_check::CheckFault;
 use zy_debug::DebugFault;
 use zy_engine::BenchFault;
 use zy_image::LoadFault;
@@ -89,12 +88,6 @@ impl Fault for ReadFault {
 impl Fault for TextFault {
     fn is_memory(&self) -> bool {
         matches!(self, TextFault::Memory)
-    }
-}
-
-impl Fault for CheckFault {
-    fn is_memory(&self) -> bool {
-        matches!(self, CheckFault::Memory)
     }
 }
 

@@ -5,9 +5,9 @@ use crate::digest::{Digest, digest_of, digest_of_bytes};
 use crate::machines::machine;
 use crate::scenarios::scenario;
 use std::alloc::Global;
-use zy_check::check::check;
+use zy_check::check::compare;
 use zy_disasm::text::write_text;
-use zy_io::{LineBuffer, SliceSource, VecSink};
+use zy_io::{LineBuffer, VecSink};
 use zy_isa::Node;
 use zy_listing::lines::link::link_line;
 use zy_listing::lines::page::page_line;
@@ -232,17 +232,18 @@ impl Calls for Testing {
     }
 }
 
-/// `zy_check::check::check` of a listing.
+/// `zy_check::check::compare` of a listing with its scenario, which is made again for each call.
 #[derive(Drop)]
-struct Checking {
+struct Comparison<'a> {
     alloc: Global,
+    input: &'a [u8],
     listing: VecSink,
 }
 
-impl Calls for Checking {
+impl Calls for Comparison<'_> {
     fn call(&mut self, _place: usize) -> Result<u64, Refused> {
-        let mut source = SliceSource::new(self.listing.bytes());
-        let verdict = tested(check(self.alloc, &mut source))?;
+        let scenario = scenario(self.alloc, self.input)?;
+        let verdict = tested(compare(self.alloc, self.listing.bytes(), scenario))?;
         let mut digest = Digest::new();
         digest.debug(&verdict);
         Ok(digest.value())
@@ -285,10 +286,14 @@ fn sweep_serial(alloc: Global, input: &[u8]) -> Result<Findings, Refused> {
     Ok(sweep(&mut Testing { alloc, machine }))
 }
 
-fn sweep_check(alloc: Global, input: &[u8]) -> Result<Findings, Refused> {
+fn sweep_compare(alloc: Global, input: &[u8]) -> Result<Findings, Refused> {
     let mut listing = VecSink::new(room(alloc)?);
     prepared(write_run(alloc, scenario(alloc, input)?, &mut listing))?;
-    Ok(sweep(&mut Checking { alloc, listing }))
+    Ok(sweep(&mut Comparison {
+        alloc,
+        input,
+        listing,
+    }))
 }
 
 /// The sweep of this name, over a scenario's text, if it is one of these.
@@ -301,7 +306,7 @@ pub fn sweep_named(name: &str, alloc: Global, input: &[u8]) -> Option<Result<Fin
         "txn_line" => Some(sweep_lines(alloc, input, Kind::Txn)),
         "link_line" => Some(sweep_lines(alloc, input, Kind::Link)),
         "serial" => Some(sweep_serial(alloc, input)),
-        "check" => Some(sweep_check(alloc, input)),
+        "compare" => Some(sweep_compare(alloc, input)),
         _ => None,
     }
 }

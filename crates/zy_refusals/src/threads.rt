@@ -11,7 +11,7 @@ use std::alloc::Global;
 use std::sync::Wait;
 use std::thread::Threads;
 use zy_check::Verdict;
-use zy_check::check::check;
+use zy_check::check::compare;
 use zy_engine::engine::run_bytes;
 use zy_engine::threading::threads_bytes;
 use zy_engine::{BenchFault, Format};
@@ -38,10 +38,10 @@ enum Job {
 
 /// Whether a listing passes `check`, and `run` of its scenario part prints it again.
 fn repeat(alloc: Global, listing: &[u8]) -> Result<(), Refused> {
-    if prepared(check(alloc, &mut SliceSource::new(listing)))? != Verdict::Table {
+    let (part, _) = listing.split_at(cut_len(listing));
+    if prepared(compare(alloc, listing, scenario(alloc, part)?))? != Verdict::Table {
         return Err(Refused::Different);
     }
-    let (part, _) = listing.split_at(cut_len(listing));
     let mut sink = VecSink::new(room(alloc)?);
     let mut source = SliceSource::new(part);
     let mut input = Vec::new(alloc);

@@ -1,10 +1,7 @@
 -- The answer is that of the search; where there was no memory for it, nothing is known.
-use Rattle.std.proofs.Common.{◌∙◌, ◌≤◌, ℕ, List, Ok, Err, refl, ap, length, subst, sym, take}
+use Rattle.std.proofs.Common.{◌≤◌, Ok, Err, refl, length, subst, sym}
 use Rattle.std.proofs.lemmas.Result.{err_from_is_err_and}
-use Rattle.zy_io.specs.Writing.{Wrote}
 use Rattle.zy_machine.specs.Histories.{History}
-use Rattle.zy_isa.specs.Scenario.{Scenario}
-use Rattle.zy_isa.specs.declared.choice.Choice.{Choice}
 use Rattle.zy_search.specs.declared.answer.SearchReport.{SearchReport}
 use Rattle.zy_search.specs.Searches.{IsAnswer, IsDue}
 use Rattle.zy_engine.proofs.SearchLemmas.{nothing_searched, taken-few, wrote_err, wrote_first}

@@ -4,7 +4,7 @@ use Rattle.zy_io.specs.Writing.{Wrote}
 use Rattle.zy_isa.specs.Scenario.{Scenario}
 use Rattle.zy_machine.specs.Histories.{choices_of}
 use Rattle.zy_listing.specs.Run.{listing_run}
-use Rattle.zy_threads.specs.Orders.{reordered}
+use Rattle.zy_threads.specs.Orders.{reordered, IsRunOf}
 use Rattle.zy_engine.proofs.MergeLemmas.{listing-again}
 use Rattle.zy_engine.proofs.threading.write_threads.Goals as goal
 
@@ -20,6 +20,7 @@ returns-in_err-write_listing g c =
       order = order;
       merge = ran.merge;
       wrote = subst Told (listing-again machine ran.run ∙ ap (λ (sc : Scenario). listing_run (reordered sc order)) ran.scenario) c.in_err-write_listing.ensures;
+      machine = tt;
     })
 
 pub returns : goal.returns
@@ -33,4 +34,5 @@ returns g c =
       order = order;
       merge = ran.merge;
       wrote = subst Told (listing-again machine ran.run ∙ ap (λ (sc : Scenario). listing_run (reordered sc order)) ran.scenario) c.in_ok-write_listing.ensures;
+      machine = (ran.scenario, subst (λ (sc : Scenario). IsRunOf (reordered sc order) machine) ran.scenario ran.run);
     }
