@@ -62,14 +62,14 @@ abbrev pub blocks : Scenario → ℕ → State → List Choice → List (List (L
 blocks sc i s [] = []
 blocks sc i s (c ∷ cs) = step_lines sc i s c ∷ blocks sc (i + 1) (step sc c s).after cs
 
--- one after another they are the lines of all steps
-pub blocks-joined : (sc : Scenario) (i : ℕ) (s : State) (cs : List Choice) → flat_map (flat_map line_of) (blocks sc i s cs)
-    ≡ flat_map line_of (steps_lines sc i s cs)
-blocks-joined sc i s [] = refl
-blocks-joined sc i s (c ∷ cs) =
+-- the lines of all steps are theirs, one after another
+pub steps-blocks : (sc : Scenario) (i : ℕ) (s : State) (cs : List Choice) → flat_map line_of (steps_lines sc i s cs)
+    ≡ flat_map (flat_map line_of) (blocks sc i s cs)
+steps-blocks sc i s [] = refl
+steps-blocks sc i s (c ∷ cs) =
     let t = (step sc c s).after in
-    ap (λ l. flat_map line_of (step_lines sc i s c) ++ l) (blocks-joined sc (i + 1) t cs)
-    ∙ sym (flat_map-append line_of (step_lines sc i s c) (steps_lines sc (i + 1) t cs))
+    flat_map-append line_of (step_lines sc i s c) (steps_lines sc (i + 1) t cs)
+    ∙ ap (λ l. flat_map line_of (step_lines sc i s c) ++ l) (steps-blocks sc (i + 1) t cs)
 
 -- there is one for each choice
 pub length-blocks : (sc : Scenario) (i : ℕ) (s : State) (cs : List Choice) → length (blocks sc i s cs) ≡ length cs
@@ -103,14 +103,16 @@ module _ (sc : Scenario) (i : ℕ) (lt : i < length sc.choices) where
   pub block-left : i < length (blocks sc 1 (opening sc) sc.choices)
   block-left = omega (arith, length-blocks sc 1 (opening sc) sc.choices, lt)
 
-  -- which is the lines of the next step
-  pub next-block : flat_map line_of (next_lines (ran sc (take i sc.choices))) ≡ flat_map line_of (get_or (blocks sc 1 (opening sc) sc.choices) i [])
-  next-block =
-      ap (flat_map line_of) (ap₂ (λ n c. step_lines sc n (play sc (opening sc) (take i sc.choices)) c) (omega (arith, made))
+  -- and has the lines of the next step
+  pub next-block : (h : History) → h ≡ ran sc (take i sc.choices)
+      → flat_map line_of (next_lines h) ≡ flat_map line_of (get_or (blocks sc 1 (opening sc) sc.choices) i [])
+  next-block h e =
+      ap (λ (x : History). flat_map line_of (next_lines x)) e
+      ∙ ap (flat_map line_of) (ap₂ (λ n c. step_lines sc n (play sc (opening sc) (take i sc.choices)) c) (omega (arith, made))
       (ap (λ k. get_or sc.choices k Start) made)
       ∙ sym (block-at sc 1 (opening sc) sc.choices i lt))
 
-  -- and follows those before it
+  -- its text follows that of those before it
   pub blocks-more : flat_map (flat_map line_of) (take (i + 1) (blocks sc 1 (opening sc) sc.choices))
       ≡ flat_map (flat_map line_of) (take i (blocks sc 1 (opening sc) sc.choices)) ++ flat_map line_of (get_or (blocks sc 1 (opening sc) sc.choices) i [])
   blocks-more =

@@ -1,5 +1,5 @@
 -- The next step is the first of those that are left.
-use Rattle.std.proofs.Common.{◌≡◌, ◌<◌, ◌∙◌, ℕ, List, [], Err, ap, arith, get_or, length, subst, sym}
+use Rattle.std.proofs.Common.{◌<◌, ◌∙◌, ℕ, List, [], Err, ap, arith, length, subst, sym}
 use Rattle.std.specs.List.{flat_map}
 use Rattle.std.specs.Io.KnownBytes.{Appends}
 use Rattle.std.proofs.KnownBytes.{Appends-trans}
@@ -10,8 +10,8 @@ use Rattle.zy_io.proofs.WritingLemmas.{Wrote-element-stops}
 use Rattle.zy_isa.specs.Scenario.{Scenario}
 use Rattle.zy_machine.specs.Histories.{History}
 use Rattle.zy_table.specs.Play.{opening}
-use Rattle.zy_trace.specs.Steps.{next_lines, with_next}
-use Rattle.zy_trace.proofs.TraceLemmas.{block-left, blocks, blocks-joined, blocks-more, length-blocks, next-block, ran-left, ran-next}
+use Rattle.zy_trace.specs.Steps.{with_next}
+use Rattle.zy_trace.proofs.TraceLemmas.{block-left, blocks, blocks-more, length-blocks, next-block, ran-left, ran-next, steps-blocks}
 use Rattle.zy_trace.proofs.trace.write_steps.Goals as goal
 
 pub write_step-requires-clause-more : goal.write_step-requires-clause-more
@@ -23,52 +23,39 @@ write_step-requires-clause-more g c =
 
 pub loop-preserved : goal.loop-preserved
 loop-preserved g c =
-    let written = g.K.Sink.written in
     let sc = c.args.now.now.scenario in
     let i = c.loop.counter in
     let all = c.choices-end.ensures.value ∙ ap (λ (s : Scenario). s.choices) c.scenario.ensures.value in
     let lt : i < length sc.choices = omega (arith, ap length all, c.loop-test.true) in
+    let made = c.loop.invariant.made in
     let step = c.in_ok-write_step.ensures in
-    let text : flat_map line_of (next_lines c.loop.now) ≡ flat_map line_of (get_or (blocks sc 1 (opening sc) sc.choices) i []) =
-    ap (λ (h : History). flat_map line_of (next_lines h)) c.loop.invariant.made ∙ next-block sc i lt in
     record {
       alike = step.alike;
-      made = step.made ∙ (ap with_next c.loop.invariant.made ∙ ran-next sc i lt);
-      so_far = subst (Appends (written c.args.sink.now) (written c.write_step.new.sink)) (sym (blocks-more sc i lt))
-          (Appends-trans (written c.args.sink.now) (written c.loop.sink) (written c.write_step.new.sink) _ _ c.loop.invariant.so_far
-          (subst (Appends (written c.loop.sink) (written c.write_step.new.sink)) text step.wrote.0));
+      made = step.made ∙ (ap with_next made ∙ ran-next sc i lt);
+      so_far = subst (Appends _ _) (sym (blocks-more sc i lt))
+          (Appends-trans _ _ _ _ _ c.loop.invariant.so_far (subst (Appends _ _) (next-block sc i lt c.loop.now made) step.wrote.0));
       none_failed = step.wrote.1 ∙ c.loop.invariant.none_failed;
     }
 
 pub returns-in_err-write_step-clause-wrote : goal.returns-in_err-write_step-clause-wrote
 returns-in_err-write_step-clause-wrote g c =
-    let written = g.K.Sink.written in
-    let failures = g.K.Sink.failures in
     let sc = c.args.now.now.scenario in
     let i = c.loop.counter in
     let all = c.choices-end.ensures.value ∙ ap (λ (s : Scenario). s.choices) c.scenario.ensures.value in
     let lt : i < length sc.choices = omega (arith, ap length all, c.loop-test.true) in
     let p = err_from_is_err_and c.from_residual.result c.from_residual.ensures.1 in
     let fault = c.in_err-write_step.field-0.0 in
-    let text : flat_map line_of (next_lines c.loop.now) ≡ flat_map line_of (get_or (blocks sc 1 (opening sc) sc.choices) i []) =
-    ap (λ (h : History). flat_map line_of (next_lines h)) c.loop.invariant.made ∙ next-block sc i lt in
-    let Step : List ℕ → Type 0 = λ out. Wrote (written c.loop.sink) (written c.write_step.new.sink) (failures c.loop.sink) (failures c.write_step.new.sink)
-    {X = Unit {0}} (Err fault) out in
-    let Steps : List ℕ → Type 0 = λ out. Wrote (written c.args.sink.now) (written c.write_step.new.sink) (failures c.args.sink.now)
-    (failures c.write_step.new.sink) c.from_residual.result out in
-    subst Steps (blocks-joined sc 1 (opening sc) sc.choices)
-    (Wrote-element-stops (written c.args.sink.now) (written c.loop.sink) (written c.write_step.new.sink) (failures c.args.sink.now) (failures c.loop.sink)
-    (failures c.write_step.new.sink) (flat_map line_of) (blocks sc 1 (opening sc) sc.choices) i [] fault c.from_residual.result (block-left sc i lt)
-    c.loop.invariant.so_far c.loop.invariant.none_failed (subst Step text c.in_err-write_step.ensures.wrote) (p.1 ∙ ap Err p.2))
+    let Text : List ℕ → Type 0 = λ text. Wrote (g.K.Sink.written c.loop.sink) (g.K.Sink.written c.write_step.new.sink) (g.K.Sink.failures c.loop.sink)
+    (g.K.Sink.failures c.write_step.new.sink) {X = Unit {0}} (Err fault) text in
+    rw steps-blocks
+    (Wrote-element-stops _ _ _ _ _ _ (flat_map line_of) (blocks sc 1 (opening sc) sc.choices) i [] fault _ (block-left sc i lt) c.loop.invariant.so_far
+    c.loop.invariant.none_failed (subst Text (next-block sc i lt c.loop.now c.loop.invariant.made) c.in_err-write_step.ensures.wrote)
+    (p.1 ∙ ap Err p.2))
 
 pub returns-clause-wrote : goal.returns-clause-wrote
 returns-clause-wrote g c =
     let sc = c.args.now.now.scenario in
     let all = c.choices-end.ensures.value ∙ ap (λ (s : Scenario). s.choices) c.scenario.ensures.value in
-    let blocks_of = blocks sc 1 (opening sc) sc.choices in
-    let whole = ap (flat_map (flat_map line_of)) (take_all c.loop.counter blocks_of
-    (omega (arith, length-blocks sc 1 (opening sc) sc.choices, ap length all, c.loop-test.false))) in (
-      subst (Appends (g.K.Sink.written c.args.sink.now) (g.K.Sink.written c.loop.sink)) (whole ∙ blocks-joined sc 1 (opening sc) sc.choices)
-          c.loop.invariant.so_far,
-      c.loop.invariant.none_failed,
-    )
+    let whole = take_all c.loop.counter (blocks sc 1 (opening sc) sc.choices)
+    (omega (arith, length-blocks sc 1 (opening sc) sc.choices, ap length all, c.loop-test.false)) in
+    rw steps-blocks (subst (Appends _ _) (ap (flat_map (flat_map line_of)) whole) c.loop.invariant.so_far, c.loop.invariant.none_failed)
