@@ -45,7 +45,7 @@ whole (x ∷ xs) = ap (λ l. x ∷ l) (whole xs)
 pub rest_whole : (i : ℕ) (xs : List Lock) → take (length xs - i) (drop i xs) ≡ drop i xs
 rest_whole i xs = ap (λ k. take k (drop i xs)) (sym (length-drop i xs)) ∙ whole (drop i xs)
 
--- the same line
+-- a page with equal leaf, place and locks in two states has one line in both
 pub same_reply : (s t : State) (p : ℕ) (x y : Leaf) → page_in p (all_leaves s) ≡ Some x → page_in p (all_leaves t) ≡ Some y → x ≡ y
     → place_of p s ≡ place_of p t
     → locks_on A p s.a.locks ≡ locks_on A p t.a.locks → locks_on B p s.b.locks ≡ locks_on B p t.b.locks → page_reply s p ≡ page_reply t p

@@ -1,32 +1,26 @@
--- Lines one after another, and what is left of a trace.
-use Rattle.std.proofs.Common.{◌≡◌, ◌∙◌, ℕ, ◌+◌, ◌<◌, ◌≤◌, Bool, true, List, [], ◌∷◌, ◌++◌, Option, Result, Err, refl, sym, ap, arith, append_assoc, append-nil}
-use Rattle.std.proofs.Common.{map, length, subst, drop, get_or, suc, zero}
-use Rattle.std.specs.Io.KnownBytes.{Appends}
-use Rattle.std.proofs.KnownBytes.{Appends-trans}
-use Rattle.std.proofs.lemmas.List.{drop_more}
-use Rattle.zy_io.specs.declared.writing.TextFault.{TextFault}
-use Rattle.zy_io.specs.Writing.{Wrote}
-use Rattle.zy_io.proofs.WritingLemmas.{Wrote-stops}
-use Rattle.zy_isa.specs.declared.choice.Choice.{Choice}
-use Rattle.zy_isa.specs.declared.choice.Choice.TheVariants.{Start}
-use Rattle.zy_isa.specs.Scenario.{Scenario}
-use Rattle.zy_isa.specs.Scenario.{IsScenario}
-use Rattle.zy_text.specs.Canon.{canon, choice_text}
-use Rattle.zy_table.specs.declared.entry.Entry.{Entry}
-use Rattle.zy_table.specs.Play.{step, opening, play, entry_of}
-use Rattle.zy_laws.specs.Counts.{Safe}
-use Rattle.zy_machine.specs.Histories.{History, IsReplay, choices_of}
-use Rattle.zy_disasm.specs.Lines.{head_texts, end_texts}
-use Rattle.zy_disasm.proofs.CanonLemmas.{canon-before}
-use Rattle.zy_listing.specs.SameMaps.{is_serial}
-use Rattle.zy_trace.specs.Trace.{Beside, step_lines, steps_lines, opening_lines, last_lines, trace_lines, trace_from}
+-- Lines one after another, and the steps of a run.
+use Rattle.std.proofs.Common.{◌≡◌, ◌∙◌, ℕ, ◌+◌, ◌<◌, List, [], ◌∷◌, ◌++◌, refl, sym, ap, ap₂, arith, append_assoc, append-nil}
+use Rattle.std.proofs.Common.{true, map, length, get_or, suc, zero, take}
 use Rattle.std.specs.List.{flat_map, range_with_len}
 use Rattle.std.proofs.lemmas.Grind.{flat_map-append}
+use Rattle.std.proofs.lemmas.List.{length-take-le, take_more}
 use Rattle.std.proofs.lemmas.List.FromFn.{map-range_with_len_more}
 use Rattle.zy_io.specs.Writing.{line_of}
+use Rattle.zy_io.proofs.WritingLemmas.{flat_map-take}
+use Rattle.zy_isa.specs.declared.choice.Choice.{Choice}
+use Rattle.zy_isa.specs.declared.choice.Choice.TheVariants.{Start}
+use Rattle.zy_isa.specs.Scenario.{Scenario, IsScenario}
+use Rattle.zy_text.specs.Canon.{canon}
 use Rattle.zy_table.specs.State.{State}
+use Rattle.zy_table.specs.Play.{step, opening, play, entries}
+use Rattle.zy_laws.specs.Counts.{Safe}
+use Rattle.zy_laws.proofs.walk.PlayPush.{play-push, entries-push, length-entries}
+use Rattle.zy_machine.specs.Histories.{History, IsReplay, choices_of}
+use Rattle.zy_listing.specs.SameMaps.{is_serial}
 use Rattle.zy_trace.specs.declared.subject.Subject.{Subject}
+use Rattle.zy_trace.specs.Steps.{end_text, next_lines, ran, with_next}
 use Rattle.zy_trace.specs.Subjects.{line_in, inset, lines_of_subject, shown_texts, state_lines, subjects}
+use Rattle.zy_trace.specs.Trace.{step_lines, steps_lines, opening_lines, last_lines, trace, trace_from}
 
 -- one number more
 pub shown_more : (f : Subject → List ℕ) (g : ℕ → Subject) (n : ℕ) → flat_map f (map g (range_with_len 0 (n + 1))) ≡ flat_map f (map g (range_with_len 0 n))
@@ -41,7 +35,7 @@ two_parts : (f : Subject → List ℕ) (o m p : List ℕ) (ks bs : List Subject)
 two_parts f o m p ks bs h k =
     k ∙ ap (λ x. x ++ flat_map f bs) h ∙ append_assoc o (flat_map f ks) (flat_map f bs) ∙ ap (λ x. o ++ x) (sym (flat_map-append f ks bs))
 
--- the same of four lists of subjects
+-- the lines of four lists of subjects are those of all of them in a row
 pub four_parts : (f : Subject → List ℕ) (o m p l e : List ℕ) (ks bs cs ds : List Subject) → m ≡ o ++ flat_map f ks → p ≡ m ++ flat_map f bs
     → l ≡ p ++ flat_map f cs → e ≡ l ++ flat_map f ds
     → e ≡ o ++ flat_map f (ks ++ (bs ++ (cs ++ ds)))
@@ -63,103 +57,86 @@ pub all_shown : (before now : State) (xs : List Subject) → flat_map (lines_of_
 all_shown before now [] = refl
 all_shown before now (x ∷ xs) = ap (λ l. inset (line_in now x) ∷ l) (all_shown before now xs)
 
--- no choice is behind the last
-drop-beyond : (i : ℕ) (cs : List Choice) → length cs ≤ i → drop i cs ≡ []
-drop-beyond zero [] h = refl
-drop-beyond zero (c ∷ cs) h = absurd (omega arith)
-drop-beyond (suc i) [] h = refl
-drop-beyond (suc i) (c ∷ cs) h = drop-beyond i cs (omega arith)
+-- the lines of each step by themselves, from step i on
+abbrev pub blocks : Scenario → ℕ → State → List Choice → List (List (List ℕ))
+blocks sc i s [] = []
+blocks sc i s (c ∷ cs) = step_lines sc i s c ∷ blocks sc (i + 1) (step sc c s).after cs
 
--- the lines of the first steps went out, and those of the others, from state s on, are left
-pub record Written (old new : Option (List ℕ)) (sc : Scenario) (i : ℕ) (s : State) : Type 0 where
-  pub out : List ℕ
-  pub whole : flat_map line_of (steps_lines sc 1 (opening sc) sc.choices) ≡ out ++ flat_map line_of (steps_lines sc (i + 1) s (drop i sc.choices))
-  pub wrote : Appends old new out
+-- the lines of all steps are theirs, one after another
+pub steps-blocks : (sc : Scenario) (i : ℕ) (s : State) (cs : List Choice) → flat_map line_of (steps_lines sc i s cs)
+    ≡ flat_map (flat_map line_of) (blocks sc i s cs)
+steps-blocks sc i s [] = refl
+steps-blocks sc i s (c ∷ cs) =
+    let t = (step sc c s).after in
+    flat_map-append line_of (step_lines sc i s c) (steps_lines sc (i + 1) t cs)
+    ∙ ap (λ l. flat_map line_of (step_lines sc i s c) ++ l) (steps-blocks sc (i + 1) t cs)
 
--- the next step is the first of those that are left
-pub written_next : (a b : Option (List ℕ)) (sc : Scenario) (i : ℕ) (s : State) (h : Written a b sc i s) → i < length sc.choices
-    → let c = get_or sc.choices i Start in
-    flat_map line_of (steps_lines sc 1 (opening sc) sc.choices)
-    ≡ h.out ++ (flat_map line_of (step_lines sc (i + 1) s c) ++ flat_map line_of (steps_lines sc (i + 1 + 1) (step sc c s).after (drop (i + 1) sc.choices)))
-written_next a b sc i s h lt =
-    let c = get_or sc.choices i Start in
-    h.whole
-    ∙ ap (λ l. h.out ++ l) (
-    ap (λ cs. flat_map line_of (steps_lines sc (i + 1) s cs)) (drop_more sc.choices i Start lt)
-    ∙ flat_map-append line_of (step_lines sc (i + 1) s c) (steps_lines sc (i + 1 + 1) (step sc c s).after (drop (i + 1) sc.choices))
-    )
+-- there is one for each choice
+pub length-blocks : (sc : Scenario) (i : ℕ) (s : State) (cs : List Choice) → length (blocks sc i s cs) ≡ length cs
+length-blocks sc i s [] = refl
+length-blocks sc i s (c ∷ cs) = ap suc (length-blocks sc (i + 1) (step sc c s).after cs)
 
--- one step more went out
-pub written_step : (a b d : Option (List ℕ)) (sc : Scenario) (i : ℕ) (s t : State) → Written a b sc i s → i < length sc.choices
-    → t ≡ (step sc (get_or sc.choices i Start) s).after
-    → Appends b d (flat_map line_of (step_lines sc (i + 1) s (get_or sc.choices i Start))) → Written a d sc (i + 1) t
-written_step a b d sc i s t h lt e w =
-    let c = get_or sc.choices i Start in
-    let piece = flat_map line_of (step_lines sc (i + 1) s c) in
-    record {
-      out = h.out ++ piece;
-      whole =
-          written_next a b sc i s h lt
-          ∙ sym (append_assoc h.out piece (flat_map line_of (steps_lines sc (i + 1 + 1) (step sc c s).after (drop (i + 1) sc.choices))))
-          ∙ ap (λ x. (h.out ++ piece) ++ flat_map line_of (steps_lines sc (i + 1 + 1) x (drop (i + 1) sc.choices))) (sym e);
-      wrote = Appends-trans a b d h.out piece h.wrote w;
-    }
+-- that of the choice behind k others
+block-at : (sc : Scenario) (i : ℕ) (s : State) (cs : List Choice) (k : ℕ) → k < length cs
+    → get_or (blocks sc i s cs) k [] ≡ step_lines sc (i + k) (play sc s (take k cs)) (get_or cs k Start)
+block-at sc i s [] k lt = absurd (omega arith)
+block-at sc i s (c ∷ cs) zero lt = ap (λ n. step_lines sc n s c) (omega arith)
+block-at sc i s (c ∷ cs) (suc k) lt =
+    let t = (step sc c s).after in
+    block-at sc (i + 1) t cs k (omega arith) ∙ ap (λ n. step_lines sc n (play sc t (take k cs)) (get_or cs k Start)) (omega arith)
 
--- no step is left
-pub written_all : (a b : Option (List ℕ)) (sc : Scenario) (i : ℕ) (s : State) → Written a b sc i s → length sc.choices ≤ i
-    → Appends a b (flat_map line_of (steps_lines sc 1 (opening sc) sc.choices))
-written_all a b sc i s h le =
-    let none : drop i sc.choices ≡ [] = drop-beyond i sc.choices le in
-    subst (Appends a b) (sym (h.whole ∙ ap (λ cs. h.out ++ flat_map line_of (steps_lines sc (i + 1) s cs)) none ∙ append-nil h.out)) h.wrote
+-- Where the first i choices of a scenario are made, and one more is left.
+module _ (sc : Scenario) (i : ℕ) (lt : i < length sc.choices) where
+  -- there are as many entries
+  made : length (entries sc (opening sc) (take i sc.choices)) ≡ i
+  made = length-entries sc (opening sc) (take i sc.choices) ∙ length-take-le i sc.choices (omega (arith, lt))
 
--- the fault of a step's text is that of all
-pub written_stops : {Y : Type 0} (a b d : Option (List ℕ)) (m n k : ℕ) (f : TextFault) (r : Result Y TextFault) (sc : Scenario) (i : ℕ) (s : State)
-    → Written a b sc i s → i < length sc.choices → n ≡ m
-    → Wrote b d n k {X = Unit {0}} (Err f) (flat_map line_of (step_lines sc (i + 1) s (get_or sc.choices i Start))) → r ≡ Err f
-    → Wrote a d m k r (flat_map line_of (steps_lines sc 1 (opening sc) sc.choices))
-written_stops a b d m n k f r sc i s h lt same w is =
-    let c = get_or sc.choices i Start in
-    Wrote-stops a b d m n k f r h.out (flat_map line_of (step_lines sc (i + 1) s c))
-    (flat_map line_of (steps_lines sc (i + 1 + 1) (step sc c s).after (drop (i + 1) sc.choices)))
-    (flat_map line_of (steps_lines sc 1 (opening sc) sc.choices)) h.wrote same w (written_next a b sc i s h lt) is
+  -- fewer than choices
+  pub ran-left : length (entries sc (opening sc) (take i sc.choices)) < length sc.choices
+  ran-left = omega (arith, made, lt)
 
--- a machine made a choice, and this entry came of it
-pub record Made (x y : History) (c : Choice) (e : Entry) : Type 0 where
-  pub scenario : y.scenario ≡ x.scenario
-  pub entry : e ≡ entry_of c (step x.scenario c x.state)
-  pub entries : y.entries ≡ x.entries ++ e ∷ []
-  pub state : y.state ≡ (step x.scenario c x.state).after
+  -- the machine that makes it has made one more
+  pub ran-next : with_next (ran sc (take i sc.choices)) ≡ ran sc (take (i + 1) sc.choices)
+  ran-next = rw (made, take_more sc.choices i Start lt, play-push, entries-push) refl
 
--- both machines make the same choice
-pub beside_step : (x y v w : History) (c : Choice) (d e : Entry) → Beside x y → Made x v c d → Made y w c e → Beside v w
-beside_step x y v w c d e h m n =
-    let made : step x.scenario c x.state ≡ step y.scenario c y.state =
-    ap (λ sc. step sc c x.state) h.scenario ∙ ap (λ s. step y.scenario c s) h.state in
-    record {
-      scenario = m.scenario ∙ (h.scenario ∙ sym n.scenario);
-      state = m.state ∙ (ap (λ z. z.after) made ∙ sym n.state);
-      entries = m.entries ∙ (ap (λ l. l ++ d ∷ []) h.entries ∙ (ap (λ z. y.entries ++ z ∷ []) (m.entry ∙ (ap (entry_of c) made ∙ sym n.entry))
-          ∙ sym n.entries));
-    }
+  -- its block is there
+  pub block-left : i < length (blocks sc 1 (opening sc) sc.choices)
+  block-left = omega (arith, length-blocks sc 1 (opening sc) sc.choices, lt)
+
+  -- and has the lines of the next step
+  pub next-block : (h : History) → h ≡ ran sc (take i sc.choices)
+      → flat_map line_of (next_lines h) ≡ flat_map line_of (get_or (blocks sc 1 (opening sc) sc.choices) i [])
+  next-block h e =
+      ap (λ (x : History). flat_map line_of (next_lines x)) e
+      ∙ ap (flat_map line_of) (ap₂ (λ n c. step_lines sc n (play sc (opening sc) (take i sc.choices)) c) (omega (arith, made))
+      (ap (λ k. get_or sc.choices k Start) made)
+      ∙ sym (block-at sc 1 (opening sc) sc.choices i lt))
+
+  -- its text follows that of those before it
+  pub blocks-more : flat_map (flat_map line_of) (take (i + 1) (blocks sc 1 (opening sc) sc.choices))
+      ≡ flat_map (flat_map line_of) (take i (blocks sc 1 (opening sc) sc.choices)) ++ flat_map line_of (get_or (blocks sc 1 (opening sc) sc.choices) i [])
+  blocks-more =
+      let on : i + 1 ≡ suc i = omega arith in
+      ap (λ n. flat_map (flat_map line_of) (take n (blocks sc 1 (opening sc) sc.choices))) on
+      ∙ flat_map-take (flat_map line_of) (blocks sc 1 (opening sc) sc.choices) i [] block-left
 
 -- there are as many transactions as programs
 pub counted : (h : History) → ((sc : Scenario) → IsScenario sc → (choices : List Choice) → Safe sc (length choices) (play sc (opening sc) choices)) → IsReplay h
     → length h.state.txns ≡ length h.scenario.programs
 counted h law r = ap (λ (s : State). length s.txns) r.state ∙ (law h.scenario r.tested (choices_of h.entries)).txns
 
--- the lines that are written are the trace
-pub trace-lines : (sc : Scenario) (s t : State) (same : Bool) → s ≡ opening sc
-    → flat_map line_of (head_texts sc ++ (map choice_text sc.choices ++ (end_texts
-    ++ (opening_lines s ++ (steps_lines sc 1 (opening sc) sc.choices ++ last_lines t same)))))
-    ≡ canon sc ++ flat_map line_of (trace_lines sc t same)
-trace-lines sc s t same e =
-    canon-before sc (opening_lines s ++ (steps_lines sc 1 (opening sc) sc.choices ++ last_lines t same))
-    ∙ ap (λ x. canon sc ++ flat_map line_of (opening_lines x ++ (steps_lines sc 1 (opening sc) sc.choices ++ last_lines t same))) e
-
--- the scenario, and the lines with what the test against the serial run says, are the trace
-pub trace-tested : (sc : Scenario) (t : State) (same : Bool) → same ≡ is_serial sc t → canon sc ++ flat_map line_of (trace_lines sc t same) ≡ trace_from sc t
+-- the parts that are written are the trace
+pub trace-parts : (sc : Scenario) → (canon sc ++ flat_map line_of (opening_lines (opening sc)))
+    ++ (flat_map line_of (steps_lines sc 1 (opening sc) sc.choices) ++ end_text (ran sc sc.choices))
+    ≡ trace sc
 unfolding trace_from
-trace-tested sc t same e = ap (λ b. canon sc ++ flat_map line_of (trace_lines sc t b)) e
+trace-parts sc =
+    let steps = steps_lines sc 1 (opening sc) sc.choices in
+    let t = play sc (opening sc) sc.choices in
+    let last = last_lines t (is_serial sc t) in
+    append_assoc (canon sc) (flat_map line_of (opening_lines (opening sc))) (flat_map line_of steps ++ flat_map line_of last)
+    ∙ ap (λ l. canon sc ++ (flat_map line_of (opening_lines (opening sc)) ++ l)) (sym (flat_map-append line_of steps last))
+    ∙ ap (λ l. canon sc ++ l) (sym (flat_map-append line_of (opening_lines (opening sc)) (steps ++ last)))
 
 -- the bytes of all lines of a state
 pub state_text : (s : State) → shown_texts true s s (subjects s) ≡ flat_map line_of (state_lines s)

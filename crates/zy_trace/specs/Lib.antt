@@ -1,4 +1,5 @@
 pub mod Kept
 pub mod Laws
+pub mod Steps
 pub mod Subjects
 pub mod Trace

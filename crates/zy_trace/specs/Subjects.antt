@@ -39,7 +39,7 @@ lines_of_subject all before now x = if not all && bytes_eq (line_in before x) (l
 abbrev pub changed : State → State → List (List ℕ)
 changed before now = flat_map (lines_of_subject false before now) (subjects now)
 
--- the same as bytes
+-- the bytes of the line of a subject that is shown, with its end
 abbrev pub shown_text : Bool → State → State → Subject → List ℕ
 shown_text all before now x = flat_map line_of (lines_of_subject all before now x)
 

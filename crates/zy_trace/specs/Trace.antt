@@ -1,5 +1,5 @@
 -- The trace of a scenario: its opening state, its steps, and below each step the lines of the state that it changed.
-use Rattle.std.specs.Prelude.{◌≡◌, ℕ, ◌+◌, Bool, List, [], ◌∷◌, ◌++◌, codes}
+use Rattle.std.specs.Prelude.{ℕ, ◌+◌, Bool, List, [], ◌∷◌, ◌++◌, codes}
 use Rattle.std.specs.List.{flat_map}
 use Rattle.zy_isa.specs.declared.choice.Choice.{Choice}
 use Rattle.zy_text.specs.Canon.{canon}
@@ -7,7 +7,6 @@ use Rattle.zy_isa.specs.Scenario.{Scenario}
 use Rattle.zy_io.specs.Writing.{line_of}
 use Rattle.zy_table.specs.State.{State}
 use Rattle.zy_table.specs.Play.{play, opening, step, entry_of}
-use Rattle.zy_machine.specs.Histories.{History}
 use Rattle.zy_listing.specs.Texts.{step_text, serial_text}
 use Rattle.zy_listing.specs.Listing.{final_texts}
 use Rattle.zy_listing.specs.SameMaps.{is_serial}
@@ -17,7 +16,7 @@ use Rattle.zy_trace.specs.Subjects.{state_lines, changed}
 abbrev pub step_lines : Scenario → ℕ → State → Choice → List (List ℕ)
 step_lines sc i s c = let x = step sc c s in step_text i (entry_of c x) ∷ changed s x.after
 
--- the same of each choice, from step i on
+-- the lines of the step of each choice, from step i on
 abbrev pub steps_lines : Scenario → ℕ → State → List Choice → List (List ℕ)
 steps_lines sc i s [] = []
 steps_lines sc i s (c ∷ cs) = step_lines sc i s c ++ steps_lines sc (i + 1) (step sc c s).after cs
@@ -39,9 +38,3 @@ trace_from sc t = canon sc ++ flat_map line_of (trace_lines sc t (is_serial sc t
 
 abbrev pub trace : Scenario → List ℕ
 trace sc = trace_from sc (play sc (opening sc) sc.choices)
-
--- two machines are at the same point of a scenario
-pub record Beside (x y : History) : Type 0 where
-  pub scenario : x.scenario ≡ y.scenario
-  pub state : x.state ≡ y.state
-  pub entries : x.entries ≡ y.entries

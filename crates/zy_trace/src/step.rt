@@ -1,14 +1,13 @@
 //! One step of a trace.
-ghost use Rattle.std.specs.Prelude.{◌≡◌, ◌<◌, ◌+◌, ◌++◌, true, OnOk, get_or, length};
+ghost use Rattle.std.specs.Prelude.{◌≡◌, ◌<◌, ◌++◌, true, IfOk, OnOk, length};
 ghost use Rattle.std.specs.List.{flat_map};
 ghost use Rattle.zy_isa.specs.Limits.{max_choices};
 ghost use Rattle.zy_io.specs.Writing.{line_of};
 ghost use Rattle.zy_isa.specs.Choices.{names_below};
-ghost use Rattle.zy_isa.specs.declared.choice.Choice.TheVariants.{Start};
-ghost use Rattle.zy_table.specs.Play as table;
+ghost use Rattle.zy_table.specs.Play.{entry_of};
 ghost use Rattle.zy_listing.specs.Texts.{step_text};
 ghost use Rattle.zy_trace.specs.Subjects.{changed};
-ghost use Rattle.zy_trace.specs.Trace.{Beside, step_lines};
+ghost use Rattle.zy_trace.specs.Steps.{next_choice, next_lines, next_step, with_next};
 
 use crate::since::{Since, Texts, append_since};
 use std::alloc::AllocError;
@@ -30,7 +29,7 @@ fn append_step(number: usize, entry: &Entry, line: &mut LineBuffer) -> Result<()
 /// The next choice of a machine's scenario.
 fn next_choice(machine: &Machine) -> Choice
     requires { length machine.now.entries < length machine.now.scenario.choices }
-    ensures value { result ≡ get_or machine.now.scenario.choices (length machine.now.entries) Start }
+    ensures value { result ≡ next_choice machine.now }
     ensures named { names_below (length machine.now.scenario.programs) result ≡ true }
     ensures room { length machine.now.entries < max_choices }
 {
@@ -74,29 +73,32 @@ fn append_changed(
     Ok(())
 }
 
-/// Makes the next choice of a scenario on the second of two machines that are at the same point, puts the lines of the
-/// step into the buffer, and then makes the choice on the first.
+/// Makes the next choice of a machine's scenario.
+fn advance(machine: &mut Machine) -> Result<Entry, AllocError>
+    requires { length machine.old.entries < length machine.old.scenario.choices }
+    ensures entry { IfOk result (λ e. e ≡ entry_of (next_choice machine.old) (next_step machine.old)) }
+    ensures made { OnOk result (machine.new ≡ with_next machine.old) }
+{
+    let choice = next_choice(machine);
+    machine.step(choice)
+}
+
+/// Makes the next choice on the second of two machines that are alike, puts the lines of the step into the buffer, and
+/// then makes the choice on the first.
 pub(crate) fn trace_step(
     before: &mut Machine,
     now: &mut Machine,
     texts: &mut Texts,
     line: &mut LineBuffer,
 ) -> Result<(), AllocError>
-    requires beside { Beside before.old now.old }
+    requires alike { before.old ≡ now.old }
     requires more { length now.old.entries < length now.old.scenario.choices }
-    ensures beside { OnOk result (Beside before.new now.new) }
-    ensures scenario { OnOk result (now.new.scenario ≡ now.old.scenario) }
-    ensures position { OnOk result (length now.new.entries ≡ length now.old.entries + 1) }
-    ensures state { OnOk result (now.new.state
-        ≡ (table.step now.old.scenario (get_or now.old.scenario.choices (length now.old.entries) Start)
-        now.old.state).after) }
-    ensures lines { OnOk result (line.new ≡ flat_map line_of
-        (step_lines now.old.scenario (length now.old.entries + 1) now.old.state
-        (get_or now.old.scenario.choices (length now.old.entries) Start))) }
+    ensures alike { OnOk result (before.new ≡ now.new) }
+    ensures made { OnOk result (now.new ≡ with_next now.old) }
+    ensures lines { OnOk result (line.new ≡ flat_map line_of (next_lines now.old)) }
 {
-    let choice = next_choice(now);
-    let entry = now.step(choice)?;
+    let entry = advance(now)?;
     append_changed(before, now, &entry, texts, line)?;
-    before.step(choice)?;
+    advance(before)?;
     Ok(())
 }

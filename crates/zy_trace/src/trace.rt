@@ -1,12 +1,13 @@
 //! The whole trace.
-ghost use Rattle.std.specs.Prelude.{◌≡◌, ◌<◌, ◌++◌, [], IfOk};
+ghost use Rattle.std.specs.Prelude.{◌≡◌, ◌<◌, ◌++◌, [], IfOk, OnOk, length};
 ghost use Rattle.std.specs.List.{flat_map};
 ghost use Rattle.zy_io.specs.Writing.{line_of, Wrote};
 ghost use Rattle.zy_table.specs.Play.{entries, opening, play};
 ghost use Rattle.zy_trace.specs.Subjects.{state_lines};
 ghost use Rattle.zy_text.specs.Canon.{canon};
-ghost use Rattle.zy_trace.specs.Trace.{steps_lines, trace_from, trace_lines};
+ghost use Rattle.zy_trace.specs.Trace.{opening_lines, steps_lines};
 ghost use Rattle.zy_trace.specs.Trace as spec;
+ghost use Rattle.zy_trace.specs.Steps.{end_text, next_lines, ran, with_next};
 
 use crate::since::{Since, Texts, append_since};
 use crate::step::trace_step;
@@ -44,14 +45,52 @@ impl Section for StateLines<'_> {
     }
 }
 
-/// The steps of a machine's scenario, each with what it changed.
-#[derive(Clone, Copy)]
-struct StepsLines<'a> {
+/// Writes the scenario of a machine that has made no choice, and the lines of its state.
+fn write_opening<K: Sink>(
     alloc: Global,
-    machine: &'a Machine,
+    machine: &Machine,
+    sink: &mut K,
+    line: &mut LineBuffer,
+) -> Result<(), TextFault>
+    requires failures { K.failures sink.old < u64.MAX }
+    requires opened { machine.now ≡ ran machine.now.scenario [] }
+    ensures { Wrote (K.written sink.old) (K.written sink.new) (K.failures sink.old) (K.failures sink.new) result
+        (canon machine.now.scenario ++ flat_map line_of (opening_lines (opening machine.now.scenario))) }
+{
+    let scenario = machine.scenario();
+    sections!(
+        ScenarioHead(scenario),
+        AllLines(Each(scenario.choices())),
+        One("end"),
+        One("trace"),
+        One("0 opening"),
+        StateLines { alloc, machine },
+    )
+    .write(sink, line)
 }
 
-/// Makes the choices of a scenario on two machines that are at its opening, and writes the lines of each step.
+/// Makes the next choice of a scenario on two machines that are alike, and writes the lines of the step.
+fn write_step<K: Sink>(
+    before: &mut Machine,
+    now: &mut Machine,
+    texts: &mut Texts,
+    sink: &mut K,
+    line: &mut LineBuffer,
+) -> Result<(), TextFault>
+    requires failures { K.failures sink.old < u64.MAX }
+    requires alike { before.old ≡ now.old }
+    requires more { length now.old.entries < length now.old.scenario.choices }
+    ensures wrote { Wrote (K.written sink.old) (K.written sink.new) (K.failures sink.old) (K.failures sink.new) result
+        (flat_map line_of (next_lines now.old)) }
+    ensures alike { OnOk result (before.new ≡ now.new) }
+    ensures made { OnOk result (now.new ≡ with_next now.old) }
+{
+    trace_step(before, now, texts, line)?;
+    write_all(sink, line.as_bytes())?;
+    Ok(())
+}
+
+/// Makes the choices of a scenario on two machines that have made none, and writes the lines of each step.
 fn write_steps<K: Sink>(
     alloc: Global,
     before: &mut Machine,
@@ -60,119 +99,86 @@ fn write_steps<K: Sink>(
     line: &mut LineBuffer,
 ) -> Result<(), TextFault>
     requires failures { K.failures sink.old < u64.MAX }
-    requires before { before.old ≡ record {
-      scenario = now.old.scenario;
-      state = opening now.old.scenario;
-      entries = [];
-    } }
-    requires now { now.old ≡ record { scenario = now.old.scenario; state = opening now.old.scenario; entries = [] } }
-    ensures { Wrote (K.written sink.old) (K.written sink.new) (K.failures sink.old) (K.failures sink.new) result
+    requires opened { now.old ≡ ran now.old.scenario [] }
+    requires alike { before.old ≡ now.old }
+    ensures wrote { Wrote (K.written sink.old) (K.written sink.new) (K.failures sink.old) (K.failures sink.new) result
         (flat_map line_of (steps_lines now.old.scenario 1 (opening now.old.scenario) now.old.scenario.choices)) }
+    ensures made { OnOk result (now.new ≡ ran now.old.scenario now.old.scenario.choices) }
 {
     let mut texts = Texts::new(alloc);
     for _ in 0..now.scenario().choices().len() {
-        trace_step(before, now, &mut texts, line)?;
-        write_all(sink, line.as_bytes())?;
+        write_step(before, now, &mut texts, sink, line)?;
     }
     Ok(())
 }
 
-/// The same, with a second machine of the scenario.
-fn write_steps_beside<K: Sink>(
+/// Makes the choices of the scenario of a machine that has made none, and writes the lines of each step. A second
+/// machine is one step behind.
+fn write_all_steps<K: Sink>(
     alloc: Global,
-    before: &mut Machine,
-    machine: &Machine,
+    machine: &mut Machine,
     sink: &mut K,
     line: &mut LineBuffer,
 ) -> Result<(), TextFault>
     requires failures { K.failures sink.old < u64.MAX }
-    requires before { before.old ≡ record {
-      scenario = machine.now.scenario;
-      state = opening machine.now.scenario;
-      entries = [];
-    } }
-    ensures { Wrote (K.written sink.old) (K.written sink.new) (K.failures sink.old) (K.failures sink.new) result
-        (flat_map line_of (steps_lines machine.now.scenario 1
-        (opening machine.now.scenario) machine.now.scenario.choices)) }
+    requires opened { machine.old ≡ ran machine.old.scenario [] }
+    ensures wrote { Wrote (K.written sink.old) (K.written sink.new) (K.failures sink.old) (K.failures sink.new) result
+        (flat_map line_of (steps_lines machine.old.scenario 1
+        (opening machine.old.scenario) machine.old.scenario.choices)) }
+    ensures made { OnOk result (machine.new ≡ ran machine.old.scenario machine.old.scenario.choices) }
 {
-    let mut now = machine.reopen(alloc)?;
-    write_steps(alloc, before, &mut now, sink, line)
+    let mut before = machine.reopen(alloc)?;
+    write_steps(alloc, &mut before, machine, sink, line)
 }
 
-impl Section for StepsLines<'_> {
-    ghost use Rattle.zy_table.specs.Play.{opening};
-    ghost use Rattle.zy_trace.specs.Trace.{steps_lines};
-
-    ghost texts = { λ s. steps_lines s.machine.now.scenario 1
-        (opening s.machine.now.scenario) s.machine.now.scenario.choices };
-
-    fn write<K: Sink>(&self, sink: &mut K, line: &mut LineBuffer) -> Result<(), TextFault> {
-        let mut before = self.machine.reopen(self.alloc)?;
-        write_steps_beside(self.alloc, &mut before, self.machine, sink, line)
-    }
-}
-
-/// Writes the trace of a machine that has made all choices of its scenario; `opened` is one that has made none, and
-/// `agrees` what the test against the serial run says.
-fn write_parts_of<K: Sink>(
+/// Writes the lines of a machine's state, and whether the serial run agrees with it.
+fn write_end<K: Sink>(
     alloc: Global,
     machine: &Machine,
-    opened: &Machine,
-    agrees: bool,
     sink: &mut K,
+    line: &mut LineBuffer,
 ) -> Result<(), TextFault>
-    requires failures { K.failures sink.old < u64.MAX }
-    requires opened { opened.now.state ≡ opening machine.now.scenario }
-    ensures { Wrote (K.written sink.old) (K.written sink.new) (K.failures sink.old) (K.failures sink.new) result
-        (canon machine.now.scenario ++ flat_map line_of (trace_lines machine.now.scenario machine.now.state agrees)) }
-{
-    let mut line = LineBuffer::new(alloc);
-    let scenario = machine.scenario();
-    sections!(
-        ScenarioHead(scenario),
-        AllLines(Each(scenario.choices())),
-        One("end"),
-        One("trace"),
-        One("0 opening"),
-        StateLines {
-            alloc,
-            machine: opened,
-        },
-        StepsLines { alloc, machine },
-        FinalState(machine),
-        One(SerialLine(agrees)),
-        One("end"),
-    )
-    .write(sink, &mut line)
-}
-
-/// The same, with what the test against the serial run says.
-fn write_tested<K: Sink>(
-    alloc: Global,
-    machine: &Machine,
-    opened: &Machine,
-    sink: &mut K,
-) -> Result<(), TextFault>
-    requires failures { K.failures sink.old < u64.MAX }
-    requires opened { opened.now.state ≡ opening machine.now.scenario }
-    ensures { Wrote (K.written sink.old) (K.written sink.new) (K.failures sink.old) (K.failures sink.new) result
-        (trace_from machine.now.scenario machine.now.state) }
-{
-    let agrees = same(alloc, machine)?;
-    write_parts_of(alloc, machine, opened, agrees, sink)
-}
-
-/// The same, with a machine that has made no choice.
-fn write_opened<K: Sink>(alloc: Global, machine: &Machine, sink: &mut K) -> Result<(), TextFault>
     requires { K.failures sink.old < u64.MAX }
     ensures { Wrote (K.written sink.old) (K.written sink.new) (K.failures sink.old) (K.failures sink.new) result
-        (trace_from machine.now.scenario machine.now.state) }
+        (end_text machine.now) }
 {
-    let opened = machine.reopen(alloc)?;
-    write_tested(alloc, machine, &opened, sink)
+    let agrees = same(alloc, machine)?;
+    sections!(FinalState(machine), One(SerialLine(agrees)), One("end")).write(sink, line)
 }
 
-/// Makes the choices of a scenario, writes its trace, and gives the machine that has made them.
+/// Makes the choices of the scenario of a machine that has made none, and writes the trace from the first step on.
+fn write_rest<K: Sink>(
+    alloc: Global,
+    machine: &mut Machine,
+    sink: &mut K,
+    line: &mut LineBuffer,
+) -> Result<(), TextFault>
+    requires failures { K.failures sink.old < u64.MAX }
+    requires opened { machine.old ≡ ran machine.old.scenario [] }
+    ensures wrote { Wrote (K.written sink.old) (K.written sink.new) (K.failures sink.old) (K.failures sink.new) result
+        (flat_map line_of (steps_lines machine.old.scenario 1
+        (opening machine.old.scenario) machine.old.scenario.choices)
+        ++ end_text (ran machine.old.scenario machine.old.scenario.choices)) }
+    ensures made { OnOk result (machine.new ≡ ran machine.old.scenario machine.old.scenario.choices) }
+{
+    write_all_steps(alloc, machine, sink, line)?;
+    write_end(alloc, machine, sink, line)
+}
+
+/// Makes the choices of the scenario of a machine that has made none, and writes its trace.
+fn write_run<K: Sink>(alloc: Global, machine: &mut Machine, sink: &mut K) -> Result<(), TextFault>
+    requires failures { K.failures sink.old < u64.MAX }
+    requires opened { machine.old ≡ ran machine.old.scenario [] }
+    ensures wrote { Wrote (K.written sink.old) (K.written sink.new) (K.failures sink.old) (K.failures sink.new) result
+        (spec.trace machine.old.scenario) }
+    ensures made { OnOk result (machine.new ≡ ran machine.old.scenario machine.old.scenario.choices) }
+{
+    let mut line = LineBuffer::new(alloc);
+    write_opening(alloc, machine, sink, &mut line)?;
+    write_rest(alloc, machine, sink, &mut line)
+}
+
+/// Makes the choices of a scenario, writes its trace, and returns the machine that has made them.
 pub fn write_trace<K: Sink>(
     alloc: Global,
     scenario: Scenario,
@@ -187,7 +193,7 @@ pub fn write_trace<K: Sink>(
       entries = entries scenario (opening scenario) scenario.choices;
     }) }
 {
-    let machine = Machine::run_all(alloc, scenario)?;
-    write_opened(alloc, &machine, sink)?;
+    let mut machine = Machine::open(alloc, scenario)?;
+    write_run(alloc, &mut machine, sink)?;
     Ok(machine)
 }

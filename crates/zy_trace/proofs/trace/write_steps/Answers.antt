@@ -1,57 +1,61 @@
 -- The next step is the first of those that are left.
-use Rattle.std.proofs.Common.{◌≡◌, ◌+◌, ◌<◌, ◌∙◌, Err, ap, sym, subst, arith, length}
+use Rattle.std.proofs.Common.{◌<◌, ◌∙◌, ℕ, List, [], Err, ap, arith, length, subst, sym}
 use Rattle.std.specs.List.{flat_map}
 use Rattle.std.specs.Io.KnownBytes.{Appends}
+use Rattle.std.proofs.KnownBytes.{Appends-trans}
+use Rattle.std.proofs.lemmas.List.{take_all}
 use Rattle.std.proofs.lemmas.Result.{err_from_is_err_and}
-use Rattle.zy_io.specs.Streams.{WrotePrefix}
 use Rattle.zy_io.specs.Writing.{line_of, Wrote}
-use Rattle.zy_io.specs.declared.writing.TextFault.TheVariants.{Write}
-use Rattle.zy_table.specs.Play.{opening}
-use Rattle.zy_trace.specs.Trace.{steps_lines}
+use Rattle.zy_io.proofs.WritingLemmas.{Wrote-element-stops}
 use Rattle.zy_isa.specs.Scenario.{Scenario}
-use Rattle.zy_trace.proofs.TraceLemmas.{Written, written_step, written_stops}
+use Rattle.zy_machine.specs.Histories.{History}
+use Rattle.zy_table.specs.Play.{opening}
+use Rattle.zy_trace.specs.Steps.{with_next}
+use Rattle.zy_trace.proofs.TraceLemmas.{block-left, blocks, blocks-more, length-blocks, next-block, ran-left, ran-next, steps-blocks}
 use Rattle.zy_trace.proofs.trace.write_steps.Goals as goal
+
+pub write_step-requires-clause-more : goal.write_step-requires-clause-more
+write_step-requires-clause-more g c =
+    let sc = c.args.now.now.scenario in
+    let all = c.choices-end.ensures.value ∙ ap (λ (s : Scenario). s.choices) c.scenario.ensures.value in
+    let lt : c.loop.counter < length sc.choices = omega (arith, ap length all, c.loop-test.true) in
+    subst (λ (h : History). length h.entries < length h.scenario.choices) (sym c.loop.invariant.made) (ran-left sc c.loop.counter lt)
 
 pub loop-preserved : goal.loop-preserved
 loop-preserved g c =
-    let written = g.K.Sink.written in
-    let h = c.loop.now in
-    let step = c.in_ok-trace_step.ensures in
-    let all : length c.choices-end.result.now ≡ length h.scenario.choices =
-    ap length (c.choices-end.ensures.value ∙ ap (λ (s : Scenario). s.choices) (c.scenario.ensures.value ∙ sym c.loop.invariant.scenario)) in
-    let more-left : length h.entries < length h.scenario.choices = omega (arith, all, c.loop.invariant.position, c.loop-test.true) in
-    let out = subst (Appends (written c.loop.sink) (written c.write_all.new.sink)) (c.as_bytes.ensures.value ∙ step.lines) c.in_ok-write_all.ensures.0 in
-    let more = written_step (written c.args.sink.now) (written c.loop.sink) (written c.write_all.new.sink) h.scenario
-    (length h.entries) h.state c.trace_step.new.now.state
-    c.loop.invariant.steps more-left step.state out in
+    let sc = c.args.now.now.scenario in
+    let i = c.loop.counter in
+    let all = c.choices-end.ensures.value ∙ ap (λ (s : Scenario). s.choices) c.scenario.ensures.value in
+    let lt : i < length sc.choices = omega (arith, ap length all, c.loop-test.true) in
+    let made = c.loop.invariant.made in
+    let step = c.in_ok-write_step.ensures in
     record {
-      beside = step.beside;
-      scenario = step.scenario ∙ c.loop.invariant.scenario;
-      position = omega (arith, step.position, c.loop.invariant.position);
-      steps = subst (λ n. Written (written c.args.sink.now) (written c.write_all.new.sink) c.trace_step.new.now.scenario n c.trace_step.new.now.state)
-          (sym step.position)
-          (subst (λ sc. Written (written c.args.sink.now) (written c.write_all.new.sink) sc (length h.entries + 1) c.trace_step.new.now.state)
-          (sym step.scenario) more);
-      same = c.in_ok-write_all.ensures.1 ∙ c.loop.invariant.same;
+      alike = step.alike;
+      made = step.made ∙ (ap with_next made ∙ ran-next sc i lt);
+      so_far = subst (Appends _ _) (sym (blocks-more sc i lt))
+          (Appends-trans _ _ _ _ _ c.loop.invariant.so_far (subst (Appends _ _) (next-block sc i lt c.loop.now made) step.wrote.0));
+      none_failed = step.wrote.1 ∙ c.loop.invariant.none_failed;
     }
 
-pub returns-in_err-write_all : goal.returns-in_err-write_all
-returns-in_err-write_all g c =
-    let written = g.K.Sink.written in
-    let h = c.loop.now in
-    let step = c.in_ok-trace_step.ensures in
-    let p = err_from_is_err_and c.from_residual-in_err-write_all.result c.from_residual-in_err-write_all.ensures.1 in
-    let all : length c.choices-end.result.now ≡ length h.scenario.choices =
-    ap length (c.choices-end.ensures.value ∙ ap (λ (s : Scenario). s.choices) (c.scenario.ensures.value ∙ sym c.loop.invariant.scenario)) in
-    let more-left : length h.entries < length h.scenario.choices = omega (arith, all, c.loop.invariant.position, c.loop-test.true) in
-    let out = subst (WrotePrefix (written c.loop.sink) (written c.write_all.new.sink)) (c.as_bytes.ensures.value ∙ step.lines) c.in_err-write_all.ensures.0 in
-    let Text : Scenario → Type 0 = λ sc. Wrote (written c.args.sink.now) (written c.write_all.new.sink) (g.K.Sink.failures c.args.sink.now)
-    (g.K.Sink.failures c.write_all.new.sink)
-    c.from_residual-in_err-write_all.result (flat_map line_of (steps_lines sc 1 (opening sc) sc.choices)) in
-    subst Text c.loop.invariant.scenario
-    (written_stops (written c.args.sink.now) (written c.loop.sink) (written c.write_all.new.sink) (g.K.Sink.failures c.args.sink.now)
-    (g.K.Sink.failures c.loop.sink) (g.K.Sink.failures c.write_all.new.sink)
-    Write c.from_residual-in_err-write_all.result h.scenario (length h.entries) h.state c.loop.invariant.steps more-left c.loop.invariant.same (
-      out,
-      c.in_err-write_all.ensures.1,
-    ) (p.1 ∙ ap Err p.2))
+pub returns-in_err-write_step-clause-wrote : goal.returns-in_err-write_step-clause-wrote
+returns-in_err-write_step-clause-wrote g c =
+    let sc = c.args.now.now.scenario in
+    let i = c.loop.counter in
+    let all = c.choices-end.ensures.value ∙ ap (λ (s : Scenario). s.choices) c.scenario.ensures.value in
+    let lt : i < length sc.choices = omega (arith, ap length all, c.loop-test.true) in
+    let p = err_from_is_err_and c.from_residual.result c.from_residual.ensures.1 in
+    let fault = c.in_err-write_step.field-0.0 in
+    let Text : List ℕ → Type 0 = λ text. Wrote (g.K.Sink.written c.loop.sink) (g.K.Sink.written c.write_step.new.sink) (g.K.Sink.failures c.loop.sink)
+    (g.K.Sink.failures c.write_step.new.sink) {X = Unit {0}} (Err fault) text in
+    rw steps-blocks
+    (Wrote-element-stops _ _ _ _ _ _ (flat_map line_of) (blocks sc 1 (opening sc) sc.choices) i [] fault _ (block-left sc i lt) c.loop.invariant.so_far
+    c.loop.invariant.none_failed (subst Text (next-block sc i lt c.loop.now c.loop.invariant.made) c.in_err-write_step.ensures.wrote)
+    (p.1 ∙ ap Err p.2))
+
+pub returns-clause-wrote : goal.returns-clause-wrote
+returns-clause-wrote g c =
+    let sc = c.args.now.now.scenario in
+    let all = c.choices-end.ensures.value ∙ ap (λ (s : Scenario). s.choices) c.scenario.ensures.value in
+    let whole = take_all c.loop.counter (blocks sc 1 (opening sc) sc.choices)
+    (omega (arith, length-blocks sc 1 (opening sc) sc.choices, ap length all, c.loop-test.false)) in
+    rw steps-blocks (subst (Appends _ _) (ap (flat_map (flat_map line_of)) whole) c.loop.invariant.so_far, c.loop.invariant.none_failed)

@@ -1,16 +1,20 @@
 -- The lines of the steps so far went out, and both machines are behind them.
-use Rattle.std.proofs.Common.{◌≡◌, length}
-use Rattle.zy_trace.specs.Trace.{Beside}
-use Rattle.zy_trace.proofs.TraceLemmas.{Written}
+use Rattle.std.proofs.Common.{◌≡◌, take}
+use Rattle.std.specs.Io.KnownBytes.{Appends}
+use Rattle.std.specs.List.{flat_map}
+use Rattle.zy_io.specs.Writing.{line_of}
+use Rattle.zy_table.specs.Play.{opening}
+use Rattle.zy_trace.specs.Steps.{ran}
+use Rattle.zy_trace.proofs.TraceLemmas.{blocks}
 use Rattle.zy_trace.proofs.trace.write_steps.Given as goal
 
 abbrev pub invariant-loop : goal.invariant-loop
 invariant-loop g l =
     let written = g.K.Sink.written in
+    let sc = l.fn.now.scenario in
     record {
-      beside : Beside l.before l.now;
-      scenario : l.now.scenario ≡ l.fn.now.scenario;
-      position : length l.now.entries ≡ l.counter;
-      steps : Written (written l.fn.sink) (written l.sink) l.now.scenario (length l.now.entries) l.now.state;
-      same : g.K.Sink.failures l.sink ≡ g.K.Sink.failures l.fn.sink;
+      alike : l.before ≡ l.now;
+      made : l.now ≡ ran sc (take l.counter sc.choices);
+      so_far : Appends (written l.fn.sink) (written l.sink) (flat_map (flat_map line_of) (take l.counter (blocks sc 1 (opening sc) sc.choices)));
+      none_failed : g.K.Sink.failures l.sink ≡ g.K.Sink.failures l.fn.sink;
     }
