@@ -153,7 +153,7 @@ impl Furthest {
     /// The step that comes at its end of the choice of a line that does not fit there.
     fn instead(&self, alloc: Global, line: LogLine) -> Result<Option<Entry>, Fault> {
         let mut machine = self.machine.copy(alloc)?;
-        unfit(&mut machine, line)
+        disagreeing(&mut machine, line)
     }
 
     /// The first line of the client that does not fit where those before it are made behind its end, on a machine that is there,
@@ -164,7 +164,7 @@ impl Furthest {
             if let Some(next) = step_by(line, Actor::C) {
                 if passed < self.taken.c {
                     passed = passed.saturating_add(1);
-                } else if let Some(entry) = unfit(machine, next.step)? {
+                } else if let Some(entry) = disagreeing(machine, next.step)? {
                     return Ok(Some((next, entry)));
                 }
             }
@@ -224,7 +224,7 @@ impl Furthest {
 }
 
 /// Makes the choice of a line on a machine, if it may be made there, and returns the step where the line does not agree with it.
-fn unfit(machine: &mut Machine, line: LogLine) -> Result<Option<Entry>, Fault> {
+fn disagreeing(machine: &mut Machine, line: LogLine) -> Result<Option<Entry>, Fault> {
     let count = machine.scenario().programs().len();
     if !line.choice.names_below(count) || MAX_CHOICES <= machine.len() {
         return Ok(None);
