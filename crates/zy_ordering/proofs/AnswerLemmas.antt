@@ -1,5 +1,5 @@
 -- What the parts of the engine make together.
-use Rattle.std.proofs.Common.{◌≡◌, ◌≤◌, ◌+◌, ℕ, List, [], Option, None, IfSome, Result, Ok, Err, inl, inr, refl, sym, arith}
+use Rattle.std.proofs.Common.{ℕ, List, [], Option, None, Ok, Err, inl, inr, refl, sym, arith}
 use Rattle.std.proofs.Common.{append-nil}
 use Rattle.zy_io.specs.declared.writing.TextFault.{TextFault}
 use Rattle.zy_io.specs.declared.writing.TextFault.TheVariants.{Write, Memory}
@@ -19,12 +19,11 @@ use Rattle.zy_engine.specs.Inputs.{IsTextFault}
 use Rattle.zy_engine.specs.Searching.{history_of, WroteSome}
 use Rattle.zy_ordering.specs.declared.faults.BelowFault.{BelowFault}
 use Rattle.zy_ordering.specs.declared.faults.BelowFault.TheVariants as misread
-use Rattle.zy_ordering.specs.declared.faults.OrderFault.{OrderFault}
 use Rattle.zy_ordering.specs.declared.faults.OrderFault.TheVariants.{Bench}
 use Rattle.zy_ordering.specs.declared.options.OrderOptions.{OrderOptions}
 use Rattle.zy_ordering.specs.Faults.{of_below}
 use Rattle.zy_ordering.specs.Ordering.{below, Answers, IsAnswerOf, IsAnswerTo, IsTextOf, ReadsBelow, SaysIn}
-use Rattle.zy_ordering.specs.Ordering.{WroteOrder, WrotePart, WroteText}
+use Rattle.zy_ordering.specs.Ordering.{WroteOrder, WrotePart}
 use Rattle.zy_ordering.specs.Missing.{AreGapsIn}
 
 -- ---- a text of an answer

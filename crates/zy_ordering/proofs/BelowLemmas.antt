@@ -1,5 +1,5 @@
 -- The lines below a scenario, as they are read.
-use Rattle.std.proofs.Common.{◌≡◌, ℕ, List, Result, Ok, Err, None, ap, subst, arith, length}
+use Rattle.std.proofs.Common.{◌≡◌, ℕ, List, Result, Ok, Err, None, subst, arith}
 use Rattle.std.specs.declared.vec.Vec.{Vec}
 use Rattle.std.specs.declared.alloc.Global.{Global}
 use Rattle.zy_isa.specs.Scenario.{Scenario, IsScenario, AreNamed}

@@ -1,5 +1,5 @@
 -- The steps that a machine has made of all choices of its scenario.
-use Rattle.std.proofs.Common.{◌≡◌, ◌∙◌, ◌≤◌, ◌∷◌, ℕ, suc, List, [], Option, None, Some, refl, sym, ap, subst, arith, length, take}
+use Rattle.std.proofs.Common.{◌≡◌, ◌∙◌, ◌≤◌, ◌∷◌, suc, List, [], None, refl, sym, ap, subst, arith, length, take}
 use Rattle.std.proofs.Math.Seq.{take-length}
 use Rattle.zy_isa.specs.declared.choice.Choice.{Choice}
 use Rattle.zy_isa.specs.Scenario.{Scenario}
