@@ -39,9 +39,9 @@ PARTS = [
 HEAD = '''# What must be believed
 
 A contract is proved of the code, but that it says what you want you must see for yourself: it speaks of the definitions in `specs/`, and of the types of
-the code. This page lists those of which the contracts of the commands speak, and the laws, by themselves or
-by way of others, each file after those that it uses. What is in `specs/` and not listed here is there for proofs, or for contracts between crates, of which
-the promises name some. Of the standard library's definitions they use those of numbers, lists, options, results, maps and streams.
+the code. This page lists those that the contracts of the commands and the laws use, directly or through others, each file after those that it uses. What is
+in `specs/` and not listed here is there for proofs, or for contracts between crates, of which the promises name some. Of the standard library's definitions
+they use those of numbers, lists, options, results, maps and streams.
 
 `tools/believe.py` makes this page from the imports of the files, and a test compares it.
 '''

@@ -13,7 +13,8 @@ class Words:
     def tail(outcome, sent=None):
         return ' -> %s%s\n' % (outcome, ' ! ' + sent if sent else '')
 
-    NO_TAIL = '\n'
+    # What is between a choice and what came of it, and what ends a line without that.
+    BEHIND, NO_TAIL = ' -> ', '\n'
 
 
 class Objects:
@@ -25,7 +26,7 @@ class Objects:
     def tail(outcome, sent=None):
         return ', "came": %s%s}\n' % (json.dumps(outcome), ', "sent": %s' % json.dumps(sent) if sent else '')
 
-    NO_TAIL = '}\n'
+    BEHIND, NO_TAIL = ', "came"', '}\n'
 
 
 def form_of(is_json):

@@ -25,7 +25,7 @@ PROGRAM = os.environ.get('ZY_BENCH', os.path.join(TOP, 'zy_bench'))
 LIMIT = 120
 
 # What is said of a round, by the status of `zy_bench order`.
-VERDICTS = {0: 'explained', 4: 'no order', 6: 'gave up'}
+VERDICTS = {0: 'explained', 1: 'rejected', 4: 'no order', 6: 'gave up'}
 
 # What is said of a round, in one word or two and in lines; the logs; how often a fault made a difference; the seconds of the store and of the answer.
 Round = namedtuple('Round', 'verdict lines logs slips ran asked')
@@ -67,10 +67,12 @@ class Failed(Exception):
 
 
 def log_of(folder, name, is_json):
-    """The text of a log; none where a crash came before it was made. Where a crash cut off the end of its last line, that is ended here."""
+    """The text of a log; none where a crash came before it was made. Where a crash cut off the end of its last line, that is ended behind its choice."""
     path = os.path.join(folder, name + '.log')
     text = content(path) if os.path.exists(path) else ''
-    return text if text.endswith('\n') or not text else text + form_of(is_json).NO_TAIL
+    lines, end, last = text.rpartition('\n')
+    form = form_of(is_json)
+    return lines + end + (last.split(form.BEHIND)[0] + form.NO_TAIL if last else '')
 
 
 def content(*path):
