@@ -7,8 +7,8 @@ _zy_bench() {
     return
   fi
   case ${COMP_WORDS[1]} in
-    run) options='--image --json --help' ;;
-    threads | trace) options='--image --help' ;;
+    run | trace) options='--image --json --help' ;;
+    threads) options='--image --help' ;;
     debug) options='--every --ring --help' ;;
     search) options='--image --for --always --from --kill --without --states --threads --canon --help' ;;
     find) options='--image --for --always --help' ;;

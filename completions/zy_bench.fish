@@ -6,7 +6,7 @@ complete -c zy_bench -f -n '__fish_seen_subcommand_from help' -a "$commands"
 complete -c zy_bench -l help -s h -d 'Print help'
 complete -c zy_bench -l version -s V -d 'Print the version' -n "not __fish_seen_subcommand_from $commands"
 complete -c zy_bench -l image -d 'The input is an image' -n '__fish_seen_subcommand_from run threads trace search find'
-complete -c zy_bench -l json -d 'Steps are objects of JSON' -n '__fish_seen_subcommand_from run order'
+complete -c zy_bench -l json -d 'Steps are objects of JSON' -n '__fish_seen_subcommand_from run trace order'
 complete -c zy_bench -l every -x -d 'Keep copies at multiples of N' -n '__fish_seen_subcommand_from debug'
 complete -c zy_bench -l ring -x -d 'Keep at most N copies' -n '__fish_seen_subcommand_from debug'
 complete -c zy_bench -l for -x -d 'What to look for' -n '__fish_seen_subcommand_from search find' \

@@ -31,8 +31,8 @@ PARTS = [
      ['zy_engine/src/threading.rt', 'zy_engine/src/debugging.rt', 'zy_engine/src/laws.rt', 'zy_threads/src/laws.rt', 'zy_console/src/laws.rt']),
     ('Goals and the search', 'What `search` and `find` answer, and what the words of a goal mean.', [],
      ['zy_engine/src/searching.rt', 'zy_engine/src/finding.rt', 'zy_goals/src/reading.rt', 'zy_search/src/search.rt', 'zy_search/src/laws.rt']),
-    ('Logs', 'What lines of logs say, which order fits them, and what `order` and `run --json` do.', [],
-     ['zy_engine/src/step_objects.rt', 'zy_logs/src/logs.rt', 'zy_logs/src/log_line.rt', 'zy_logs/src/laws.rt', 'zy_order/src/order.rt', 'zy_ordering/src/ordering.rt',
+    ('Logs', 'What lines of logs say, which order fits them, and what `order` does.', [],
+     ['zy_logs/src/logs.rt', 'zy_logs/src/log_line.rt', 'zy_logs/src/laws.rt', 'zy_order/src/order.rt', 'zy_ordering/src/ordering.rt',
       'zy_ordering/src/behind.rt', 'zy_ordering/src/laws.rt']),
 ]
 

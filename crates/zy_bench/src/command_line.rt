@@ -69,6 +69,8 @@ pub enum Conversion {
     Objects(Format),
     /// The trace of its run.
     Trace(Format),
+    /// The steps of its trace, each as an object of JSON.
+    TracedObjects(Format),
     /// The listing of its run by three threads.
     Threads(Format),
     /// The image of a text.
@@ -150,10 +152,14 @@ fn trace_command<'a>(alloc: Global) -> Result<Command<'a>, AllocError> {
         .about("Runs a scenario, and prints what each step changes")
         .after_help(below!(
             "a scenario text, or with --image an image",
-            "the scenario, the lines of its opening state, each step with the lines that it\n         changed, and the end of the listing",
+            "the scenario, the lines of its opening state, each step with the lines that it\n         changed, and the end of the listing, or with --json the steps alone,\n         each as an object of JSON",
             "zy_bench trace examples/first_run.zephyr"
         ))
         .arg(image_flag(alloc))?
+        .arg(json_flag(
+            alloc,
+            "Writes the steps as objects of JSON, with the lines that they changed",
+        ))?
         .arg(file_argument(alloc))
 }
 
@@ -432,7 +438,7 @@ pub fn request_of<'a>(matches: &ArgMatches<'a>) -> Option<Request<'a>> {
 fn task_of<'a>(name: &str, words: &ArgMatches<'a>) -> Option<Task<'a>> {
     match name {
         "run" => Some(Task::Convert(run_of(words))),
-        "trace" => Some(Task::Convert(Conversion::Trace(format_of(words)))),
+        "trace" => Some(Task::Convert(trace_of(words))),
         "threads" => Some(Task::Convert(Conversion::Threads(format_of(words)))),
         "asm" => Some(Task::Convert(Conversion::Asm)),
         "dis" => Some(Task::Convert(Conversion::Dis)),
@@ -452,6 +458,16 @@ fn run_of(words: &ArgMatches<'_>) -> Conversion {
         Conversion::Objects(format)
     } else {
         Conversion::Run(format)
+    }
+}
+
+/// What `trace` prints: the trace, or with `--json` its steps.
+fn trace_of(words: &ArgMatches<'_>) -> Conversion {
+    let format = format_of(words);
+    if words.get_flag("json") {
+        Conversion::TracedObjects(format)
+    } else {
+        Conversion::Trace(format)
     }
 }
 

@@ -55,8 +55,9 @@ use zy_diagnostics::CommandName as Reader;
 use zy_diagnostics::line::whole_line;
 use zy_engine::checking::check_input;
 use zy_engine::debugging::{MAX_EVERY, MAX_RING, debug_bytes};
-use zy_engine::engine::{asm_bytes, dis_bytes, run_bytes, trace_bytes};
-use zy_engine::step_objects::objects_bytes;
+use zy_engine::engine::{
+    asm_bytes, dis_bytes, objects_bytes, run_bytes, trace_bytes, traced_bytes,
+};
 use zy_engine::threading::threads_bytes;
 use zy_engine::{BenchFault, Format};
 use zy_io::CountingReader;
@@ -112,6 +113,10 @@ fn convert<R: Eprint + AllocGlobal + Threads + Wait + Sync, G: Read, W: Write>(
         }
         Conversion::Trace(format) => {
             let machine = trace_bytes(alloc, format, source, output, input)?;
+            close_run(rt, &machine, output)
+        }
+        Conversion::TracedObjects(format) => {
+            let machine = traced_bytes(alloc, format, source, output, input)?;
             close_run(rt, &machine, output)
         }
         Conversion::Threads(format) => {
@@ -248,7 +253,7 @@ fn unprinted(error: &io::Error) -> BenchFault {
 fn command_of(task: Task<'_>) -> Reader {
     match task {
         Task::Convert(Conversion::Run(_) | Conversion::Objects(_)) => Reader::Run,
-        Task::Convert(Conversion::Trace(_)) => Reader::Trace,
+        Task::Convert(Conversion::Trace(_) | Conversion::TracedObjects(_)) => Reader::Trace,
         Task::Convert(Conversion::Threads(_)) => Reader::Threads,
         Task::Convert(Conversion::Asm) => Reader::Asm,
         Task::Convert(Conversion::Dis) => Reader::Dis,

@@ -8,11 +8,12 @@ use Rattle.zy_machine.specs.Histories.{History}
 use Rattle.zy_text.specs.Canon.{canon}
 use Rattle.zy_image.specs.Image.{image_of}
 use Rattle.zy_listing.specs.Run.{listing_run}
-use Rattle.zy_trace.specs.Trace.{trace}
+use Rattle.zy_trace.specs.Trace.{trace, traced_objects}
 use Rattle.zy_engine.specs.declared.output.SourceFormat.{SourceFormat}
 use Rattle.zy_engine.specs.declared.output.SourceFormat.TheVariants.{Image, Text}
 use Rattle.zy_engine.specs.declared.output.RunFormat.{RunFormat}
-use Rattle.zy_engine.specs.declared.output.RunFormat.TheVariants.{Listing, Trace}
+use Rattle.zy_engine.specs.declared.output.RunFormat.TheVariants.{Listing, Objects, Trace, TracedObjects}
+use Rattle.zy_engine.specs.StepObjects.{objects_text}
 
 -- the bytes of an output
 abbrev pub output_of : SourceFormat → Scenario → List ℕ
@@ -23,6 +24,8 @@ output_of Text = canon
 abbrev pub shown_of : RunFormat → Scenario → List ℕ
 shown_of Listing = listing_run
 shown_of Trace = trace
+shown_of Objects = objects_text
+shown_of TracedObjects = traced_objects
 
 -- the machine that has made all choices of a scenario
 abbrev pub run_of : Scenario → History

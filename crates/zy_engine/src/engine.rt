@@ -8,8 +8,9 @@ ghost use Rattle.zy_engine.specs.Engines.{ReadsInput, streams};
 ghost use Rattle.zy_engine.specs.Faults.{of_reading};
 ghost use Rattle.zy_engine.specs.OnInput.{OnInput};
 ghost use Rattle.zy_engine.specs.Outputs.{output_of, shown_of, WroteRun, WroteOutput};
+ghost use Rattle.zy_engine.specs.StepObjects.{objects_text};
 ghost use Rattle.zy_listing.specs.Run.{listing_run};
-ghost use Rattle.zy_trace.specs.Trace.{trace};
+ghost use Rattle.zy_trace.specs.Trace.{trace, traced_objects};
 
 use crate::faults::BenchFault;
 use crate::format::{Format, accept};
@@ -85,6 +86,45 @@ pub fn trace_bytes<S: Source, K: Sink>(
 {
     *input = read_all(alloc, source)?;
     run_input(alloc, format, RunFormat::Trace, input.as_slice(), sink)
+}
+
+/// Reads an input whole, and then writes the object of each step of the run on a line of its own, in the order of the steps, as
+/// `run_input` does. The bytes that were read are left in `input`.
+pub fn objects_bytes<S: Source, K: Sink>(
+    alloc: Global,
+    format: Format,
+    source: &mut S,
+    sink: &mut K,
+    input: &mut Vec<u8>,
+) -> Result<Machine, BenchFault>
+    requires { (S.failures source.old < u64.MAX) × (K.failures sink.old < u64.MAX) }
+    ensures { let at = streams S.left S.failures S.given K.written K.failures in
+        ReadsInput of_reading (OnInput (WroteRun objects_text) format) (at source.old sink.old) (at source.new sink.new) result }
+{
+    *input = read_all(alloc, source)?;
+    run_input(alloc, format, RunFormat::Objects, input.as_slice(), sink)
+}
+
+/// The same, and each object has the lines of the state that its step changed, too.
+pub fn traced_bytes<S: Source, K: Sink>(
+    alloc: Global,
+    format: Format,
+    source: &mut S,
+    sink: &mut K,
+    input: &mut Vec<u8>,
+) -> Result<Machine, BenchFault>
+    requires { (S.failures source.old < u64.MAX) × (K.failures sink.old < u64.MAX) }
+    ensures { let at = streams S.left S.failures S.given K.written K.failures in
+        ReadsInput of_reading (OnInput (WroteRun traced_objects) format) (at source.old sink.old) (at source.new sink.new) result }
+{
+    *input = read_all(alloc, source)?;
+    run_input(
+        alloc,
+        format,
+        RunFormat::TracedObjects,
+        input.as_slice(),
+        sink,
+    )
 }
 
 /// Reads an input whole, and then writes the image of the scenario that it means, as `convert_input` does. The bytes that were

@@ -11,7 +11,7 @@ pub mod laws;
 pub mod output;
 mod same;
 pub mod searching;
-pub mod step_objects;
+mod step_objects;
 pub mod threading;
 pub mod wording;
 

@@ -3,6 +3,7 @@ ghost use Rattle.std.specs.Prelude.{◌<◌};
 ghost use Rattle.zy_engine.specs.Outputs.{output_of, shown_of, WroteRun, WroteOutput};
 ghost use Rattle.zy_engine.specs.declared.output.SourceFormat.TheVariants.{Image};
 
+use crate::step_objects::write_objects;
 use std::alloc::Global;
 use zy_disasm::text::write_text;
 use zy_image::save::save;
@@ -11,7 +12,7 @@ use zy_io::{Sink, TextFault};
 use zy_isa::Scenario;
 use zy_listing::run::write_run;
 use zy_machine::Machine;
-use zy_trace::trace::write_trace;
+use zy_trace::trace;
 
 /// What can be written of a scenario's run.
 #[derive(Clone, Copy)]
@@ -20,6 +21,10 @@ pub enum RunFormat {
     Listing,
     /// The trace.
     Trace,
+    /// Its steps, each as an object of JSON.
+    Objects,
+    /// Its steps, each as an object of JSON with the lines of the state that it changed.
+    TracedObjects,
 }
 
 impl RunFormat {
@@ -36,7 +41,9 @@ impl RunFormat {
     {
         match self {
             RunFormat::Listing => write_run(alloc, scenario, sink),
-            RunFormat::Trace => write_trace(alloc, scenario, sink),
+            RunFormat::Trace => trace::write_trace(alloc, scenario, sink),
+            RunFormat::Objects => write_objects(alloc, scenario, sink),
+            RunFormat::TracedObjects => trace::write_objects(alloc, scenario, sink),
         }
     }
 }

@@ -60,6 +60,23 @@ ends_plain came sent p q =
     field_plain (codes ",\"came\":") came (with_name (codes ",\"sent\":") sent ++ codes "}") p
     ∙ ap (λ (l : List ℕ). behind (codes "\",\"came\":\"") came ++ l) (field_plain (codes ",\"sent\":") sent (codes "}") q)
 
+-- the end of the fields, and the brace behind it
+end_closed : (came sent : Option (List ℕ))
+    → (behind (codes "\",\"came\":\"") came ++ (behind (codes "\",\"sent\":\"") sent ++ codes "\"")) ++ codes "}" ≡ plain_end came sent
+end_closed came sent =
+    append_assoc (behind (codes "\",\"came\":\"") came) (behind (codes "\",\"sent\":\"") sent ++ codes "\"") (codes "}")
+    ∙ ap (λ (l : List ℕ). behind (codes "\",\"came\":\"") came ++ l) (append_assoc (behind (codes "\",\"sent\":\"") sent) (codes "\"") (codes "}"))
+
+-- the fields and the brace, in one row
+fields_closed : (s : Step) → plain_text s
+    ≡ codes "{\"actor\":\"" ++ (actor_text s.actor ++ (codes "\",\"do\":\"" ++ (s.action ++ plain_end s.came s.sent)))
+fields_closed s =
+    let ends = behind (codes "\",\"came\":\"") s.came ++ (behind (codes "\",\"sent\":\"") s.sent ++ codes "\"") in
+    let did = append_assoc s.action ends (codes "}") ∙ ap (λ (l : List ℕ). s.action ++ l) (end_closed s.came s.sent) in
+    ap (λ (l : List ℕ). codes "{\"actor\":\"" ++ l)
+    (append_assoc (actor_text s.actor) (codes "\",\"do\":\"" ++ (s.action ++ ends)) (codes "}")
+    ∙ ap (λ (l : List ℕ). actor_text s.actor ++ (codes "\",\"do\":\"" ++ l)) did)
+
 -- the two lines are the same
 pub plain_text-json_text : (s : Step) → IsPlain s → plain_text s ≡ json_text s
 plain_text-json_text s plain =
@@ -68,5 +85,5 @@ plain_text-json_text s plain =
     quoted_plain s.action rest plain.action
     ∙ ap (λ (l : List ℕ). 34 ∷ (s.action ++ l)) (ends_plain s.came s.sent plain.came plain.sent) in
     let who = quoted_plain (actor_text s.actor) (codes ",\"do\":" ++ (quoted s.action ++ rest)) (letter_plain s.actor) in
-    sym (ap (λ (l : List ℕ). codes "{\"actor\":" ++ l)
+    fields_closed s ∙ sym (ap (λ (l : List ℕ). codes "{\"actor\":" ++ l)
     (who ∙ ap (λ (l : List ℕ). 34 ∷ (actor_text s.actor ++ (34 ∷ (codes ",\"do\":" ++ l)))) did))

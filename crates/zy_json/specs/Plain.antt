@@ -16,11 +16,14 @@ pub record IsPlain (s : Step) : Type 0 where
   pub came : IfSome s.came IsPlainText
   pub sent : IfSome s.sent IsPlainText
 
--- {"actor":"ACTOR","do":"ACTION"[,"came":"CAME"][,"sent":"SENT"]}
-abbrev pub plain_text : Step → List ℕ
-plain_text s =
+-- {"actor":"ACTOR","do":"ACTION"[,"came":"CAME"][,"sent":"SENT"], without the brace at its end
+abbrev pub plain_fields : Step → List ℕ
+plain_fields s =
     codes "{\"actor\":\"" ++ (actor_text s.actor
     ++ (codes "\",\"do\":\"" ++ (s.action
     ++ (behind (codes "\",\"came\":\"") s.came
     ++ (behind (codes "\",\"sent\":\"") s.sent
-    ++ codes "\"}")))))
+    ++ codes "\"")))))
+
+abbrev pub plain_text : Step → List ℕ
+plain_text s = plain_fields s ++ codes "}"

@@ -15,7 +15,7 @@ pub mod writing;
 
 pub use crate::faults::{JsonFault, JsonLineFault, JsonLogFault};
 pub use crate::field::Member;
-pub use crate::plain::PlainStep;
+pub use crate::plain::{PlainFields, PlainStep};
 pub use crate::reading::read;
 pub use crate::step::{JsonStep, LogText};
 pub use crate::writing::write;

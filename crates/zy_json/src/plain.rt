@@ -1,6 +1,6 @@
 //! Steps whose texts are made as they are written.
 ghost use Rattle.std.specs.Prelude.{option_map};
-ghost use Rattle.zy_json.specs.Plain.{plain_text};
+ghost use Rattle.zy_json.specs.Plain.{plain_fields, plain_text};
 
 use crate::step::{Behind, letter};
 use std::alloc::AllocError;
@@ -30,14 +30,32 @@ impl<D: Line + Copy, C: Line + Copy, S: Line + Copy> Line for PlainStep<D, C, S>
     }) };
 
     fn append(&self, line: &mut LineBuffer) -> Result<(), AllocError> {
+        joined!(PlainFields(*self), "}").append(line)
+    }
+}
+
+/// The line of a `PlainStep` without the brace at its end: fields of other names may follow.
+#[derive(Clone, Copy)]
+pub struct PlainFields<D, C, S>(pub PlainStep<D, C, S>);
+
+impl<D: Line + Copy, C: Line + Copy, S: Line + Copy> Line for PlainFields<D, C, S> {
+    ghost text = { λ f. plain_fields (record {
+      actor = f.0.actor;
+      action = D.text f.0.action;
+      came = option_map C.text f.0.came;
+      sent = option_map S.text f.0.sent;
+    }) };
+
+    fn append(&self, line: &mut LineBuffer) -> Result<(), AllocError> {
+        let step = self.0;
         joined!(
             "{\"actor\":\"",
-            letter(self.actor),
+            letter(step.actor),
             "\",\"do\":\"",
-            self.action,
-            Behind("\",\"came\":\"", self.came),
-            Behind("\",\"sent\":\"", self.sent),
-            "\"}",
+            step.action,
+            Behind("\",\"came\":\"", step.came),
+            Behind("\",\"sent\":\"", step.sent),
+            b'"',
         )
         .append(line)
     }

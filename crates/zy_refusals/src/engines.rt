@@ -7,8 +7,9 @@ use crate::texts::{Prefix, room};
 use std::alloc::Global;
 use zy_engine::checking::check_bytes;
 use zy_engine::debugging::debug_bytes;
-use zy_engine::engine::{asm_bytes, dis_bytes, run_bytes, trace_bytes};
-use zy_engine::step_objects::objects_bytes;
+use zy_engine::engine::{
+    asm_bytes, dis_bytes, objects_bytes, run_bytes, trace_bytes, traced_bytes,
+};
 use zy_engine::{Format, Wording};
 use zy_image::save::save;
 use zy_io::{SliceSource, VecSink};
@@ -23,6 +24,7 @@ enum Engine {
     RunImage,
     Objects,
     Trace,
+    TracedObjects,
     Asm,
     Dis,
     Check,
@@ -80,6 +82,13 @@ fn work(
             &mut input,
         ))),
         Engine::Trace => tested(ended(trace_bytes(alloc, Format::Text, source, sink, &mut input))),
+        Engine::TracedObjects => tested(ended(traced_bytes(
+            alloc,
+            Format::Text,
+            source,
+            sink,
+            &mut input,
+        ))),
         Engine::Asm => tested(asm_bytes(alloc, source, sink, &mut input)),
         Engine::Dis => tested(dis_bytes(alloc, source, sink, &mut input)),
         Engine::Check => tested(ended(check_bytes(alloc, source, sink))),
@@ -152,6 +161,7 @@ pub fn sweep_named(name: &str, alloc: Global, input: &[u8]) -> Option<Result<Fin
         "run_image_bytes" => Some(sweep_image(alloc, Engine::RunImage, input)),
         "objects_bytes" => Some(Ok(sweep_engine(alloc, Engine::Objects, input))),
         "trace_bytes" => Some(Ok(sweep_engine(alloc, Engine::Trace, input))),
+        "traced_bytes" => Some(Ok(sweep_engine(alloc, Engine::TracedObjects, input))),
         "asm_bytes" => Some(Ok(sweep_engine(alloc, Engine::Asm, input))),
         "dis_bytes" => Some(sweep_image(alloc, Engine::Dis, input)),
         "check_bytes" => Some(sweep_listing(alloc, input)),

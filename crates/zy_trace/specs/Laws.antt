@@ -5,7 +5,7 @@ use Rattle.zy_isa.specs.Scenario.{Scenario}
 use Rattle.zy_table.specs.State.{State}
 use Rattle.zy_table.specs.Play.{step, play}
 use Rattle.zy_trace.specs.declared.subject.Subject.{Subject}
-use Rattle.zy_trace.specs.Subjects.{line_in, inset, lines_of_subject}
+use Rattle.zy_trace.specs.Subjects.{line_in, lines_of_subject}
 
 -- the line that is shown, and else the one before
 abbrev pub or_before : List (List ℕ) → List ℕ → List ℕ
@@ -22,4 +22,4 @@ last_shown sc s (c ∷ cs) x before = let t = (step sc c s).after in
 abbrev pub LastLines : Type 0
 LastLines =
     (sc : Scenario) (s : State) (cs : List Choice) (x : Subject)
-    → last_shown sc s cs x (inset (line_in s x)) ≡ inset (line_in (play sc s cs) x)
+    → last_shown sc s cs x (line_in s x) ≡ line_in (play sc s cs) x

@@ -9,6 +9,7 @@ use Rattle.zy_table.specs.State.{Step}
 use Rattle.zy_table.specs.Play.{play, entries, opening, step, entry_of}
 use Rattle.zy_machine.specs.Histories.{History}
 use Rattle.zy_listing.specs.SameMaps.{is_serial}
+use Rattle.zy_trace.specs.declared.form.StepForm.{StepForm}
 use Rattle.zy_trace.specs.Trace.{step_lines, last_lines}
 
 -- the machine that has made these choices
@@ -29,8 +30,8 @@ with_next h = let x = next_step h in
     record { scenario = h.scenario; state = x.after; entries = h.entries ++ entry_of (next_choice h) x ∷ [] }
 
 -- the lines of that step
-abbrev pub next_lines : History → List (List ℕ)
-next_lines h = step_lines h.scenario (length h.entries + 1) h.state (next_choice h)
+abbrev pub next_lines : StepForm → History → List (List ℕ)
+next_lines form h = step_lines form h.scenario (length h.entries + 1) h.state (next_choice h)
 
 -- the text of a machine's last state, and whether the serial run agrees with it
 abbrev pub end_text : History → List ℕ

@@ -3,12 +3,12 @@ use Rattle.std.specs.Prelude.{ℕ, ◌<◌, ◌&&◌, Bool, false, not, List, []
 use Rattle.std.specs.List.{flat_map}
 use Rattle.std.specs.Str.{bytes_eq}
 use Rattle.zy_isa.specs.declared.node.Node.TheVariants.{A, B}
-use Rattle.zy_io.specs.Writing.{line_of}
 use Rattle.zy_table.specs.State.{State, facing}
 use Rattle.zy_table.specs.Database.{newest}
 use Rattle.zy_listing.specs.Texts.{mode_text, link_text, txn_text}
 use Rattle.zy_listing.specs.Listing.{below}
 use Rattle.zy_listing.specs.Locked.{page_reply}
+use Rattle.zy_trace.specs.declared.since.Marks.{Marks}
 use Rattle.zy_trace.specs.declared.subject.Subject.{Subject}
 use Rattle.zy_trace.specs.declared.subject.Subject.TheVariants.{Mode, Page, Link, Txn}
 
@@ -24,27 +24,31 @@ abbrev pub subjects : State → List Subject
 subjects s = (Mode A ∷ Mode B ∷ []) ++ (map Page (below (length (newest s)))
     ++ ((Link A ∷ Link B ∷ []) ++ map Txn (below (length s.txns))))
 
--- behind two spaces
-abbrev pub inset : List ℕ → List ℕ
-inset text = codes "  " ++ text
-
 abbrev pub state_lines : State → List (List ℕ)
-state_lines s = map (λ x. inset (line_in s x)) (subjects s)
+state_lines s = map (line_in s) (subjects s)
 
 -- the line of a subject as it is now, where all are shown or it is not what it was
 abbrev pub lines_of_subject : Bool → State → State → Subject → List (List ℕ)
 lines_of_subject all before now x = if not all && bytes_eq (line_in before x) (line_in now x) then []
-    else inset (line_in now x) ∷ []
+    else line_in now x ∷ []
 
 abbrev pub changed : State → State → List (List ℕ)
 changed before now = flat_map (lines_of_subject false before now) (subjects now)
 
--- the bytes of the line of a subject that is shown, with its end
-abbrev pub shown_text : Bool → State → State → Subject → List ℕ
-shown_text all before now x = flat_map line_of (lines_of_subject all before now x)
+-- behind two spaces
+abbrev pub inset : List ℕ → List ℕ
+inset text = codes "  " ++ text
 
-abbrev pub shown_texts : Bool → State → State → List Subject → List ℕ
-shown_texts all before now xs = flat_map (shown_text all before now) xs
+-- a line between marks
+abbrev pub marked : Marks → List ℕ → List ℕ
+marked m line = m.before.now ++ (line ++ m.behind.now)
+
+-- the bytes of the line of a subject that is shown, with its marks
+abbrev pub shown_text : Marks → Bool → State → State → Subject → List ℕ
+shown_text m all before now x = flat_map (marked m) (lines_of_subject all before now x)
+
+abbrev pub shown_texts : Marks → Bool → State → State → List Subject → List ℕ
+shown_texts m all before now xs = flat_map (shown_text m all before now) xs
 
 -- a transaction that has a line is there
 abbrev pub HasLine : State → Subject → Type 0

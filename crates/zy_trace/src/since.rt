@@ -58,12 +58,20 @@ fn append_line(machine: &Machine, subject: Subject, line: &mut LineBuffer) -> Re
     }
 }
 
-/// Two states of one run, and whether all lines of the later one are shown or only those that are not what they were.
+/// What stands before a line that is shown, and behind it.
+#[derive(Clone, Copy)]
+pub(crate) struct Marks {
+    pub before: &'static str,
+    pub behind: &'static str,
+}
+
+/// Two states of one run, whether all lines of the later one are shown or only those that are not what they were, and their marks.
 #[derive(Clone, Copy)]
 pub(crate) struct Since<'a> {
     pub before: &'a Machine,
     pub after: &'a Machine,
     pub all: bool,
+    pub marks: Marks,
 }
 
 /// Whether the line of a subject is what it was.
@@ -94,7 +102,7 @@ fn is_left_out(since: &Since<'_>, subject: Subject, texts: &mut Texts) -> Result
     is_same(since, subject, texts)
 }
 
-/// Appends the line of a subject behind two spaces, with its end, where it is shown.
+/// Appends the line of a subject between the marks, where it is shown.
 fn append_shown(
     since: &Since<'_>,
     subject: Subject,
@@ -103,15 +111,15 @@ fn append_shown(
 ) -> Result<(), AllocError>
     requires before { HasLine since.now.before.now.state subject }
     requires after { HasLine since.now.after.now.state subject }
-    ensures { OnOk result (line.new ≡ line.old ++ shown_text since.now.all since.now.before.now.state
+    ensures { OnOk result (line.new ≡ line.old ++ shown_text since.now.marks since.now.all since.now.before.now.state
         since.now.after.now.state subject) }
 {
     if is_left_out(since, subject, texts)? {
         return Ok(());
     }
-    line.push_str("  ")?;
+    line.push_str(since.marks.before)?;
     append_line(since.after, subject, line)?;
-    line.push(b'\n')
+    line.push_str(since.marks.behind)
 }
 
 /// Appends a page where it is shown; `a` and `b` are the locks of the nodes that differ. The texts are made where the
@@ -126,7 +134,7 @@ fn append_page(
 ) -> Result<(), AllocError>
     requires a { AreRests since.now.before.now.state.a.locks since.now.after.now.state.a.locks a }
     requires b { AreRests since.now.before.now.state.b.locks since.now.after.now.state.b.locks b }
-    ensures { OnOk result (line.new ≡ line.old ++ shown_text since.now.all since.now.before.now.state
+    ensures { OnOk result (line.new ≡ line.old ++ shown_text since.now.marks since.now.all since.now.before.now.state
         since.now.after.now.state (Page p)) }
 {
     if !since.all && is_kept(since.before, since.after, a, b, p) {
@@ -142,7 +150,7 @@ fn append_pages(
     line: &mut LineBuffer,
 ) -> Result<(), AllocError>
     ensures { OnOk result (line.new ≡ line.old
-        ++ shown_texts since.now.all since.now.before.now.state since.now.after.now.state
+        ++ shown_texts since.now.marks since.now.all since.now.before.now.state since.now.after.now.state
         (map Page (below (length (newest since.now.after.now.state))))) }
 {
     let a = rests_at(since.before, since.after, Node::A);
@@ -161,7 +169,7 @@ fn append_txns(
 ) -> Result<(), AllocError>
     requires { length since.now.before.now.state.txns ≡ length since.now.after.now.state.txns }
     ensures { OnOk result (line.new ≡ line.old
-        ++ shown_texts since.now.all since.now.before.now.state since.now.after.now.state
+        ++ shown_texts since.now.marks since.now.all since.now.before.now.state since.now.after.now.state
         (map Txn (below (length since.now.after.now.state.txns)))) }
 {
     for t in 0..since.after.txn_count() {
@@ -178,7 +186,7 @@ pub(crate) fn append_since(
 ) -> Result<(), AllocError>
     requires { length since.now.before.now.state.txns ≡ length since.now.after.now.state.txns }
     ensures { OnOk result (line.new ≡ line.old
-        ++ shown_texts since.now.all since.now.before.now.state since.now.after.now.state
+        ++ shown_texts since.now.marks since.now.all since.now.before.now.state since.now.after.now.state
         (subjects since.now.after.now.state)) }
 {
     append_shown(since, Subject::Mode(Node::A), texts, line)?;

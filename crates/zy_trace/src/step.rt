@@ -6,11 +6,16 @@ ghost use Rattle.zy_io.specs.Writing.{line_of};
 ghost use Rattle.zy_isa.specs.Choices.{names_below};
 ghost use Rattle.zy_table.specs.Play.{entry_of};
 ghost use Rattle.zy_listing.specs.Texts.{step_text};
+ghost use Rattle.zy_trace.specs.declared.form.StepForm.TheVariants.{Lines, Object};
+ghost use Rattle.zy_trace.specs.Objects.{listed_text};
 ghost use Rattle.zy_trace.specs.Subjects.{changed};
+ghost use Rattle.zy_trace.specs.Trace.{form_lines};
 ghost use Rattle.zy_trace.specs.Steps.{next_choice, next_lines, next_step, with_next};
 
-use crate::since::{Since, Texts, append_since};
-use std::alloc::AllocError;
+use crate::form::StepForm;
+use crate::objects::TracedObject;
+use crate::since::{Marks, Since, Texts, append_since};
+use std::alloc::{AllocError, Global};
 use zy_io::{Line, LineBuffer};
 use zy_isa::Choice;
 use zy_laws::laws::safe_counts;
@@ -18,11 +23,36 @@ use zy_listing::StepLine;
 use zy_machine::Machine;
 use zy_table::Entry;
 
+/// What a step is put together in.
+#[derive(Drop)]
+pub(crate) struct Buffers {
+    texts: Texts,
+    quoted: LineBuffer,
+}
+
+impl Buffers {
+    /// Empty ones. They take no memory.
+    pub(crate) fn new(alloc: Global) -> Buffers {
+        Buffers {
+            texts: Texts::new(alloc),
+            quoted: LineBuffer::new(alloc),
+        }
+    }
+}
+
 /// Appends the line of a step, with its end.
 fn append_step(number: usize, entry: &Entry, line: &mut LineBuffer) -> Result<(), AllocError>
     ensures { OnOk result (line.new ≡ line.old ++ line_of (step_text number entry.now)) }
 {
     StepLine { number, entry }.append(line)?;
+    line.push(b'\n')
+}
+
+/// Appends the object of a step, with its end: each of the lines in it is in quotation marks, behind a comma.
+fn append_object(entry: &Entry, lines: &[u8], line: &mut LineBuffer) -> Result<(), AllocError>
+    ensures { OnOk result (line.new ≡ line.old ++ line_of (listed_text entry.now lines.now)) }
+{
+    TracedObject { entry, lines }.append(line)?;
     line.push(b'\n')
 }
 
@@ -47,8 +77,9 @@ fn same_txns(before: &Machine, now: &Machine)
     let _now = now.len();
 }
 
-/// Puts the lines of the last step of a machine into the buffer: another one of its scenario is where it was before.
-fn append_changed(
+/// Puts the line of the last step of a machine into the buffer, and below it the lines that the step changed: another machine of its
+/// scenario is where it was before.
+fn put_lines(
     before: &Machine,
     now: &Machine,
     entry: &Entry,
@@ -56,9 +87,8 @@ fn append_changed(
     line: &mut LineBuffer,
 ) -> Result<(), AllocError>
     requires { before.now.scenario ≡ now.now.scenario }
-    ensures { OnOk result (line.new
-        ≡ line_of (step_text (length now.now.entries) entry.now)
-        ++ flat_map line_of (changed before.now.state now.now.state)) }
+    ensures { OnOk result (line.new ≡ flat_map line_of (form_lines Lines (length now.now.entries) entry.now
+        (changed before.now.state now.now.state))) }
 {
     line.clear();
     // Proof: both machines have as many transactions.
@@ -68,9 +98,64 @@ fn append_changed(
         before,
         after: now,
         all: false,
+        marks: Marks {
+            before: "  ",
+            behind: "\n",
+        },
     };
     append_since(&since, texts, line)?;
     Ok(())
+}
+
+/// Puts the object of the last step of a machine into the buffer, with the lines that the step changed: another machine of its
+/// scenario is where it was before.
+fn put_object(
+    before: &Machine,
+    now: &Machine,
+    entry: &Entry,
+    buffers: &mut Buffers,
+    line: &mut LineBuffer,
+) -> Result<(), AllocError>
+    requires { before.now.scenario ≡ now.now.scenario }
+    ensures { OnOk result (line.new ≡ flat_map line_of (form_lines Object (length now.now.entries) entry.now
+        (changed before.now.state now.now.state))) }
+{
+    line.clear();
+    buffers.quoted.clear();
+    // Proof: both machines have as many transactions.
+    same_txns(before, now);
+    let since = Since {
+        before,
+        after: now,
+        all: false,
+        marks: Marks {
+            before: ",\"",
+            behind: "\"",
+        },
+    };
+    append_since(&since, &mut buffers.texts, &mut buffers.quoted)?;
+    append_object(entry, buffers.quoted.as_bytes(), line)?;
+    Ok(())
+}
+
+/// Puts the last step of a machine into the buffer, with the lines that it changed: another machine of its scenario is where it was
+/// before.
+fn put_step(
+    form: StepForm,
+    before: &Machine,
+    now: &Machine,
+    entry: &Entry,
+    buffers: &mut Buffers,
+    line: &mut LineBuffer,
+) -> Result<(), AllocError>
+    requires { before.now.scenario ≡ now.now.scenario }
+    ensures { OnOk result (line.new ≡ flat_map line_of (form_lines form (length now.now.entries) entry.now
+        (changed before.now.state now.now.state))) }
+{
+    match form {
+        StepForm::Lines => put_lines(before, now, entry, &mut buffers.texts, line),
+        StepForm::Object => put_object(before, now, entry, buffers, line),
+    }
 }
 
 /// Makes the next choice of a machine's scenario.
@@ -86,19 +171,20 @@ fn advance(machine: &mut Machine) -> Result<Entry, AllocError>
 /// Makes the next choice on the second of two machines that are alike, puts the lines of the step into the buffer, and
 /// then makes the choice on the first.
 pub(crate) fn trace_step(
+    form: StepForm,
     before: &mut Machine,
     now: &mut Machine,
-    texts: &mut Texts,
+    buffers: &mut Buffers,
     line: &mut LineBuffer,
 ) -> Result<(), AllocError>
     requires alike { before.old ≡ now.old }
     requires more { length now.old.entries < length now.old.scenario.choices }
     ensures alike { OnOk result (before.new ≡ now.new) }
     ensures made { OnOk result (now.new ≡ with_next now.old) }
-    ensures lines { OnOk result (line.new ≡ flat_map line_of (next_lines now.old)) }
+    ensures lines { OnOk result (line.new ≡ flat_map line_of (next_lines form now.old)) }
 {
     let entry = advance(now)?;
-    append_changed(before, now, &entry, texts, line)?;
+    put_step(form, before, now, &entry, buffers, line)?;
     advance(before)?;
     Ok(())
 }

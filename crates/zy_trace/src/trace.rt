@@ -1,16 +1,18 @@
-//! The whole trace.
-ghost use Rattle.std.specs.Prelude.{◌≡◌, ◌<◌, ◌++◌, [], IfOk, OnOk, length};
+//! The whole trace, and its steps alone as objects of JSON.
+ghost use Rattle.std.specs.Prelude.{◌≡◌, ◌<◌, ◌++◌, [], IfOk, OnOk, length, map};
 ghost use Rattle.std.specs.List.{flat_map};
 ghost use Rattle.zy_io.specs.Writing.{line_of, Wrote};
 ghost use Rattle.zy_table.specs.Play.{entries, opening, play};
-ghost use Rattle.zy_trace.specs.Subjects.{state_lines};
+ghost use Rattle.zy_trace.specs.Subjects.{inset, state_lines};
 ghost use Rattle.zy_text.specs.Canon.{canon};
-ghost use Rattle.zy_trace.specs.Trace.{opening_lines, steps_lines};
+ghost use Rattle.zy_trace.specs.declared.form.StepForm.TheVariants.{Lines};
+ghost use Rattle.zy_trace.specs.Trace.{opening_lines, steps_lines, traced_objects};
 ghost use Rattle.zy_trace.specs.Trace as spec;
 ghost use Rattle.zy_trace.specs.Steps.{end_text, next_lines, ran, with_next};
 
-use crate::since::{Since, Texts, append_since};
-use crate::step::trace_step;
+use crate::form::StepForm;
+use crate::since::{Marks, Since, Texts, append_since};
+use crate::step::{Buffers, trace_step};
 use std::alloc::Global;
 use zy_disasm::ScenarioHead;
 use zy_io::writing::write_all;
@@ -29,7 +31,7 @@ struct StateLines<'a> {
 }
 
 impl Section for StateLines<'_> {
-    ghost texts = { λ s. state_lines s.machine.now.state };
+    ghost texts = { λ s. map inset (state_lines s.machine.now.state) };
 
     fn write<K: Sink>(&self, sink: &mut K, line: &mut LineBuffer) -> Result<(), TextFault> {
         let mut texts = Texts::new(self.alloc);
@@ -37,6 +39,10 @@ impl Section for StateLines<'_> {
             before: self.machine,
             after: self.machine,
             all: true,
+            marks: Marks {
+                before: "  ",
+                behind: "\n",
+            },
         };
         line.clear();
         append_since(&since, &mut texts, line)?;
@@ -71,9 +77,10 @@ fn write_opening<K: Sink>(
 
 /// Makes the next choice of a scenario on two machines that are alike, and writes the lines of the step.
 fn write_step<K: Sink>(
+    form: StepForm,
     before: &mut Machine,
     now: &mut Machine,
-    texts: &mut Texts,
+    buffers: &mut Buffers,
     sink: &mut K,
     line: &mut LineBuffer,
 ) -> Result<(), TextFault>
@@ -81,17 +88,18 @@ fn write_step<K: Sink>(
     requires alike { before.old ≡ now.old }
     requires more { length now.old.entries < length now.old.scenario.choices }
     ensures wrote { Wrote (K.written sink.old) (K.written sink.new) (K.failures sink.old) (K.failures sink.new) result
-        (flat_map line_of (next_lines now.old)) }
+        (flat_map line_of (next_lines form now.old)) }
     ensures alike { OnOk result (before.new ≡ now.new) }
     ensures made { OnOk result (now.new ≡ with_next now.old) }
 {
-    trace_step(before, now, texts, line)?;
+    trace_step(form, before, now, buffers, line)?;
     write_all(sink, line.as_bytes())?;
     Ok(())
 }
 
 /// Makes the choices of a scenario on two machines that have made none, and writes the lines of each step.
 fn write_steps<K: Sink>(
+    form: StepForm,
     alloc: Global,
     before: &mut Machine,
     now: &mut Machine,
@@ -102,12 +110,12 @@ fn write_steps<K: Sink>(
     requires opened { now.old ≡ ran now.old.scenario [] }
     requires alike { before.old ≡ now.old }
     ensures wrote { Wrote (K.written sink.old) (K.written sink.new) (K.failures sink.old) (K.failures sink.new) result
-        (flat_map line_of (steps_lines now.old.scenario 1 (opening now.old.scenario) now.old.scenario.choices)) }
+        (flat_map line_of (steps_lines form now.old.scenario 1 (opening now.old.scenario) now.old.scenario.choices)) }
     ensures made { OnOk result (now.new ≡ ran now.old.scenario now.old.scenario.choices) }
 {
-    let mut texts = Texts::new(alloc);
+    let mut buffers = Buffers::new(alloc);
     for _ in 0..now.scenario().choices().len() {
-        write_step(before, now, &mut texts, sink, line)?;
+        write_step(form, before, now, &mut buffers, sink, line)?;
     }
     Ok(())
 }
@@ -115,6 +123,7 @@ fn write_steps<K: Sink>(
 /// Makes the choices of the scenario of a machine that has made none, and writes the lines of each step. A second
 /// machine is one step behind.
 fn write_all_steps<K: Sink>(
+    form: StepForm,
     alloc: Global,
     machine: &mut Machine,
     sink: &mut K,
@@ -123,12 +132,12 @@ fn write_all_steps<K: Sink>(
     requires failures { K.failures sink.old < u64.MAX }
     requires opened { machine.old ≡ ran machine.old.scenario [] }
     ensures wrote { Wrote (K.written sink.old) (K.written sink.new) (K.failures sink.old) (K.failures sink.new) result
-        (flat_map line_of (steps_lines machine.old.scenario 1
+        (flat_map line_of (steps_lines form machine.old.scenario 1
         (opening machine.old.scenario) machine.old.scenario.choices)) }
     ensures made { OnOk result (machine.new ≡ ran machine.old.scenario machine.old.scenario.choices) }
 {
     let mut before = machine.reopen(alloc)?;
-    write_steps(alloc, &mut before, machine, sink, line)
+    write_steps(form, alloc, &mut before, machine, sink, line)
 }
 
 /// Writes the lines of a machine's state, and whether the serial run agrees with it.
@@ -156,12 +165,12 @@ fn write_rest<K: Sink>(
     requires failures { K.failures sink.old < u64.MAX }
     requires opened { machine.old ≡ ran machine.old.scenario [] }
     ensures wrote { Wrote (K.written sink.old) (K.written sink.new) (K.failures sink.old) (K.failures sink.new) result
-        (flat_map line_of (steps_lines machine.old.scenario 1
+        (flat_map line_of (steps_lines Lines machine.old.scenario 1
         (opening machine.old.scenario) machine.old.scenario.choices)
         ++ end_text (ran machine.old.scenario machine.old.scenario.choices)) }
     ensures made { OnOk result (machine.new ≡ ran machine.old.scenario machine.old.scenario.choices) }
 {
-    write_all_steps(alloc, machine, sink, line)?;
+    write_all_steps(StepForm::Lines, alloc, machine, sink, line)?;
     write_end(alloc, machine, sink, line)
 }
 
@@ -195,5 +204,27 @@ pub fn write_trace<K: Sink>(
 {
     let mut machine = Machine::open(alloc, scenario)?;
     write_run(alloc, &mut machine, sink)?;
+    Ok(machine)
+}
+
+/// Makes the choices of a scenario, writes each step as one object with the lines that it changed, and returns the machine that has
+/// made them.
+pub fn write_objects<K: Sink>(
+    alloc: Global,
+    scenario: Scenario,
+    sink: &mut K,
+) -> Result<Machine, TextFault>
+    requires { K.failures sink.old < u64.MAX }
+    ensures wrote { Wrote (K.written sink.old) (K.written sink.new) (K.failures sink.old) (K.failures sink.new) result
+        (traced_objects scenario) }
+    ensures machine { IfOk result (λ m. m ≡ record {
+      scenario = scenario;
+      state = play scenario (opening scenario) scenario.choices;
+      entries = entries scenario (opening scenario) scenario.choices;
+    }) }
+{
+    let mut machine = Machine::open(alloc, scenario)?;
+    let mut line = LineBuffer::new(alloc);
+    write_all_steps(StepForm::Object, alloc, &mut machine, sink, &mut line)?;
     Ok(machine)
 }

@@ -10,8 +10,8 @@ use Rattle.zy_trace.proofs.since.append_pages.Goals as goal
 pub loop-p-preserved : goal.loop-p-preserved
 loop-p-preserved c =
     let s = c.args.since.now in
-    let f = shown_text s.all s.before.now.state s.after.now.state in
-    let so_far = shown_texts s.all s.before.now.state s.after.now.state (map Page (below c.loop-p.p)) in
+    let f = shown_text s.marks s.all s.before.now.state s.after.now.state in
+    let so_far = shown_texts s.marks s.all s.before.now.state s.after.now.state (map Page (below c.loop-p.p)) in
     c.in_ok-append_page.ensures
     ∙ ap (λ l. l ++ f (Page c.loop-p.p)) c.loop-p.invariant
     ∙ append_assoc c.args.line.now so_far (f (Page c.loop-p.p))

@@ -6,4 +6,4 @@ use Rattle.zy_trace.specs.Subjects.{shown_texts}
 use Rattle.zy_trace.proofs.since.append_pages.Given as goal
 
 abbrev pub invariant-loop-p : goal.invariant-loop-p
-invariant-loop-p l = l.line ≡ l.initial.line ++ shown_texts l.since.all l.since.before.now.state l.since.after.now.state (map Page (below l.p))
+invariant-loop-p l = l.line ≡ l.initial.line ++ shown_texts l.since.marks l.since.all l.since.before.now.state l.since.after.now.state (map Page (below l.p))

@@ -12,7 +12,7 @@ pub returns : goal.returns
 returns c =
     let s = c.args.since.now in
     let t = s.after.now.state in
-    let f = shown_text s.all s.before.now.state t in
+    let f = shown_text s.marks s.all s.before.now.state t in
     let modes = two_subjects f c.args.line.now c.append_shown.new.line c.append_shown-2.new.line (Mode A) (Mode B)
     c.in_ok-append_shown.ensures c.in_ok-append_shown-2.ensures in
     let links = two_subjects f c.append_pages.new.line c.append_shown-3.new.line c.append_shown-4.new.line (Link A) (Link B)

@@ -6,4 +6,4 @@ use Rattle.zy_trace.specs.Subjects.{shown_texts}
 use Rattle.zy_trace.proofs.since.append_txns.Given as goal
 
 abbrev pub invariant-loop-t : goal.invariant-loop-t
-invariant-loop-t l = l.line ≡ l.initial.line ++ shown_texts l.since.all l.since.before.now.state l.since.after.now.state (map Txn (below l.t))
+invariant-loop-t l = l.line ≡ l.initial.line ++ shown_texts l.since.marks l.since.all l.since.before.now.state l.since.after.now.state (map Txn (below l.t))

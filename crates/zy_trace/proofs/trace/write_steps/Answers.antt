@@ -24,6 +24,7 @@ write_step-requires-clause-more g c =
 pub loop-preserved : goal.loop-preserved
 loop-preserved g c =
     let sc = c.args.now.now.scenario in
+    let form = c.args.form in
     let i = c.loop.counter in
     let all = c.choices-end.ensures.value ∙ ap (λ (s : Scenario). s.choices) c.scenario.ensures.value in
     let lt : i < length sc.choices = omega (arith, ap length all, c.loop-test.true) in
@@ -32,14 +33,15 @@ loop-preserved g c =
     record {
       alike = step.alike;
       made = step.made ∙ (ap with_next made ∙ ran-next sc i lt);
-      so_far = subst (Appends _ _) (sym (blocks-more sc i lt))
-          (Appends-trans _ _ _ _ _ c.loop.invariant.so_far (subst (Appends _ _) (next-block sc i lt c.loop.now made) step.wrote.0));
+      so_far = subst (Appends _ _) (sym (blocks-more form sc i lt))
+          (Appends-trans _ _ _ _ _ c.loop.invariant.so_far (subst (Appends _ _) (next-block form sc i lt c.loop.now made) step.wrote.0));
       none_failed = step.wrote.1 ∙ c.loop.invariant.none_failed;
     }
 
 pub returns-in_err-write_step-clause-wrote : goal.returns-in_err-write_step-clause-wrote
 returns-in_err-write_step-clause-wrote g c =
     let sc = c.args.now.now.scenario in
+    let form = c.args.form in
     let i = c.loop.counter in
     let all = c.choices-end.ensures.value ∙ ap (λ (s : Scenario). s.choices) c.scenario.ensures.value in
     let lt : i < length sc.choices = omega (arith, ap length all, c.loop-test.true) in
@@ -48,14 +50,15 @@ returns-in_err-write_step-clause-wrote g c =
     let Text : List ℕ → Type 0 = λ text. Wrote (g.K.Sink.written c.loop.sink) (g.K.Sink.written c.write_step.new.sink) (g.K.Sink.failures c.loop.sink)
     (g.K.Sink.failures c.write_step.new.sink) {X = Unit {0}} (Err fault) text in
     rw steps-blocks
-    (Wrote-element-stops _ _ _ _ _ _ (flat_map line_of) (blocks sc 1 (opening sc) sc.choices) i [] fault _ (block-left sc i lt) c.loop.invariant.so_far
-    c.loop.invariant.none_failed (subst Text (next-block sc i lt c.loop.now c.loop.invariant.made) c.in_err-write_step.ensures.wrote)
+    (Wrote-element-stops _ _ _ _ _ _ (flat_map line_of) (blocks form sc 1 (opening sc) sc.choices) i [] fault _ (block-left form sc i lt) c.loop.invariant.so_far
+    c.loop.invariant.none_failed (subst Text (next-block form sc i lt c.loop.now c.loop.invariant.made) c.in_err-write_step.ensures.wrote)
     (p.1 ∙ ap Err p.2))
 
 pub returns-clause-wrote : goal.returns-clause-wrote
 returns-clause-wrote g c =
     let sc = c.args.now.now.scenario in
+    let form = c.args.form in
     let all = c.choices-end.ensures.value ∙ ap (λ (s : Scenario). s.choices) c.scenario.ensures.value in
-    let whole = take_all c.loop.counter (blocks sc 1 (opening sc) sc.choices)
-    (omega (arith, length-blocks sc 1 (opening sc) sc.choices, ap length all, c.loop-test.false)) in
+    let whole = take_all c.loop.counter (blocks form sc 1 (opening sc) sc.choices)
+    (omega (arith, length-blocks form sc 1 (opening sc) sc.choices, ap length all, c.loop-test.false)) in
     rw steps-blocks (subst (Appends _ _) (ap (flat_map (flat_map line_of)) whole) c.loop.invariant.so_far, c.loop.invariant.none_failed)

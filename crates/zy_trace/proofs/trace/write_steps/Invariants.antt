@@ -15,6 +15,6 @@ invariant-loop g l =
     record {
       alike : l.before ≡ l.now;
       made : l.now ≡ ran sc (take l.counter sc.choices);
-      so_far : Appends (written l.fn.sink) (written l.sink) (flat_map (flat_map line_of) (take l.counter (blocks sc 1 (opening sc) sc.choices)));
+      so_far : Appends (written l.fn.sink) (written l.sink) (flat_map (flat_map line_of) (take l.counter (blocks l.fn.form sc 1 (opening sc) sc.choices)));
       none_failed : g.K.Sink.failures l.sink ≡ g.K.Sink.failures l.fn.sink;
     }

@@ -2,9 +2,9 @@
 use Rattle.std.proofs.Common.{◌∙◌, ◌++◌, ap₂, false}
 use Rattle.zy_io.specs.Writing.{line_of}
 use Rattle.zy_listing.specs.Texts.{step_text}
-use Rattle.zy_trace.specs.Subjects.{lines_of_subject, subjects}
-use Rattle.zy_trace.proofs.TraceLemmas.{lines_each}
-use Rattle.zy_trace.proofs.step.append_changed.Goals as goal
+use Rattle.zy_trace.specs.Subjects.{changed, lines_of_subject, subjects}
+use Rattle.zy_trace.proofs.TraceLemmas.{inset_line, inset_lines, lines_each}
+use Rattle.zy_trace.proofs.step.put_lines.Goals as goal
 
 pub returns : goal.returns
 returns c =
@@ -13,4 +13,4 @@ returns c =
     c.in_ok-append_since.ensures
     ∙ ap₂ (λ l m. l ++ m)
     (c.in_ok-append_step.ensures ∙ ap₂ (λ l n. l ++ line_of (step_text n c.args.entry.now)) c.clear.ensures c.len.ensures.value)
-    (lines_each (lines_of_subject false s t) (subjects t))
+    (lines_each inset_line (lines_of_subject false s t) (subjects t) ∙ inset_lines (changed s t))

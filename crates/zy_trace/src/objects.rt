@@ -1,0 +1,110 @@
+//! A step of a run as an object of JSON, which is a line of a log.
+ghost use Rattle.std.specs.Prelude.{◌≡◌, drop};
+ghost use Rattle.zy_json.specs.Plain.{plain_fields};
+ghost use Rattle.zy_trace.specs.Objects.{action_text, listed_text, object_text, told_of};
+
+use std::alloc::AllocError;
+use zy_io::{Decimal, Line, LineBuffer, joined};
+use zy_isa::Choice;
+use zy_json::{PlainFields, PlainStep};
+use zy_listing::{KindText, OutcomeText};
+use zy_table::Entry;
+
+/// What is done of a choice, without who does it.
+#[derive(Clone, Copy)]
+struct ActionText(Choice);
+
+impl Line for ActionText {
+    ghost text = { λ a. action_text a.0 };
+
+    fn append(&self, line: &mut LineBuffer) -> Result<(), AllocError> {
+        match self.0 {
+            Choice::Start => "start".append(line),
+            Choice::Begin(t) => joined!("begin ", Decimal(t)).append(line),
+            Choice::Kill(t) => joined!("kill ", Decimal(t)).append(line),
+            Choice::Run(_, t) => joined!("run ", Decimal(t)).append(line),
+            Choice::Take(_) => "take".append(line),
+            Choice::Finish(_) => "finish".append(line),
+            Choice::Push(_) => "push".append(line),
+        }
+    }
+}
+
+/// The fields of a step's object: all that a log can tell of the step.
+#[derive(Clone, Copy)]
+struct StepFields<'a>(&'a Entry);
+
+impl Line for StepFields<'_> {
+    ghost text = { λ s. plain_fields (told_of s.0.now) };
+
+    fn append(&self, line: &mut LineBuffer) -> Result<(), AllocError> {
+        let Entry {
+            choice,
+            outcome,
+            sent,
+        } = *self.0;
+        let object = PlainStep {
+            actor: choice.actor(),
+            action: ActionText(choice),
+            came: Some(OutcomeText(outcome)),
+            sent: sent.map(KindText),
+        };
+        PlainFields(object).append(line)
+    }
+}
+
+/// A step as an object, with all that a log can tell of it.
+#[derive(Clone, Copy)]
+pub struct StepObject<'a>(pub &'a Entry);
+
+impl Line for StepObject<'_> {
+    ghost text = { λ s. object_text s.0.now };
+
+    fn append(&self, line: &mut LineBuffer) -> Result<(), AllocError> {
+        joined!(StepFields(self.0), "}").append(line)
+    }
+}
+
+/// Bytes, as they are.
+#[derive(Clone, Copy)]
+struct Bytes<'a>(&'a [u8]);
+
+impl Line for Bytes<'_> {
+    ghost text = { λ b. b.0.now };
+
+    fn append(&self, line: &mut LineBuffer) -> Result<(), AllocError> {
+        line.push_bytes(self.0)
+    }
+}
+
+/// What is behind the first byte; nothing, where there is none.
+fn behind_first(bytes: &[u8]) -> &[u8]
+    ensures { result.now ≡ drop 1 bytes.now }
+{
+    if bytes.is_empty() {
+        return bytes;
+    }
+    &bytes[1..]
+}
+
+/// A step as an object, with lines of the state in one field more.
+#[derive(Clone, Copy)]
+pub(crate) struct TracedObject<'a> {
+    pub entry: &'a Entry,
+    /// The lines in quotation marks, each of them behind a comma.
+    pub lines: &'a [u8],
+}
+
+impl Line for TracedObject<'_> {
+    ghost text = { λ s. listed_text s.entry.now s.lines.now };
+
+    fn append(&self, line: &mut LineBuffer) -> Result<(), AllocError> {
+        joined!(
+            StepFields(self.entry),
+            ",\"changed\":[",
+            Bytes(behind_first(self.lines)),
+            "]}",
+        )
+        .append(line)
+    }
+}
