@@ -297,7 +297,7 @@ SCRIPT_FAULTS = [
     script('zy_bench: --json is a file', 'zy_bench', '--image | --json | --kill', '--image | --kill', 'inputs'),
     script('zy_bench: its manual page has no --json of order', 'docs/man/zy_bench.1', 'order " [" \\-\\-json "] [" ', 'order " [" ', 'manuals'),
     script('bash: no --json behind run', 'completions/zy_bench.bash', "options='--image --json --help'", "options='--image --help'", 'manuals'),
-    script('fish: --json behind trace', 'completions/zy_bench.fish', "-n '__fish_seen_subcommand_from run order'", "-n '__fish_seen_subcommand_from run order trace'",
+    script('fish: no --json behind trace', 'completions/zy_bench.fish', '__fish_seen_subcommand_from run trace order', '__fish_seen_subcommand_from run order',
            'manuals'),
     script('zy_bench: its manual page has no --threads', 'docs/man/zy_bench.1', '\\-\\-threads " N"', '\\-\\-canon " N"', 'manuals'),
     script('fish: --ring behind search', 'completions/zy_bench.fish',
