@@ -109,7 +109,7 @@ fn number_to(operation: NumberOperation, a: &[u8], number: &[u8]) -> Result<Inst
     Ok(Parts::Number(operation, register, number).instr())
 }
 
-/// The same with the words behind the operation.
+/// An operation with the register and the number that the words behind it name.
 fn with_number(operation: NumberOperation, words: &[&[u8]]) -> Result<Instr, Reason>
     ensures { by_kind result ≡ spec.with_number operation (texts words.now) }
 {
@@ -135,7 +135,7 @@ fn jump_where(
     }
 }
 
-/// The same with the words behind the operation.
+/// An operation with the registers and the target that the words behind it name.
 fn with_target(
     alloc: Global,
     operation: JumpOperation,

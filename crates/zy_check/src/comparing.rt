@@ -20,7 +20,7 @@ fn common_len(x: &[u8], y: &[u8]) -> usize
     first_difference(x, y)
 }
 
-/// The same, byte by byte.
+/// How long the longest common prefix of two texts is, by comparing byte by byte.
 fn first_difference(x: &[u8], y: &[u8]) -> usize
     ensures { result ≡ length (common x.now y.now) }
 {

@@ -34,7 +34,7 @@ impl<'a> MarkedWord<'a> {
         }
     }
 
-    /// The same in a line of which `>` and `<` are words: no others are shown than the marks.
+    /// This word, in a line of which `>` and `<` are words: no others are shown than the marks.
     pub fn with_lone_marks(self) -> MarkedWord<'a> {
         MarkedWord {
             has_lone_marks: true,
@@ -49,7 +49,7 @@ impl<'a> MarkedWord<'a> {
         Some(MarkedWord::of(statement.bytes, word))
     }
 
-    /// The same, with the number of its line.
+    /// The word of this number in a line that is not the fault's, so that it is shown with the number of its line.
     pub fn word_elsewhere(line: SourceLine<'a>, number: usize) -> Option<MarkedWord<'a>> {
         let mut place = MarkedWord::word(line, number)?;
         place.line = Some(line.number);

@@ -105,7 +105,7 @@ pub fn objects_bytes<S: Source, K: Sink>(
     run_input(alloc, format, RunFormat::Objects, input.as_slice(), sink)
 }
 
-/// The same, and each object has the lines of the state that its step changed, too.
+/// Runs the scenario of an image and writes the object of each step, with the lines of the state that it changed.
 pub fn traced_bytes<S: Source, K: Sink>(
     alloc: Global,
     format: Format,

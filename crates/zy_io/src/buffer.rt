@@ -78,7 +78,7 @@ impl LineBuffer {
         self.push_bytes(words.as_bytes())
     }
 
-    /// The same for bytes.
+    /// Puts bytes behind the others.
     #[inline(always)]
     pub fn push_bytes(&mut self, bytes: &[u8]) -> Result<(), AllocError>
         ensures bytes { self.new ≡ (if is_ok result then self.old ++ bytes.now else self.old) }
@@ -111,7 +111,7 @@ fn put_number(number: u64, bytes: &mut Vec<u8>) -> Result<(), AllocError>
     Ok(())
 }
 
-/// The same for a number of any length, with room or without.
+/// Puts a number of any length behind other bytes, with room or without.
 #[cold]
 #[inline(never)]
 fn put_long(number: u64, bytes: &mut Vec<u8>) -> Result<(), AllocError>

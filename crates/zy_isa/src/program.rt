@@ -64,7 +64,7 @@ fn stray_target(instrs: &[Instr]) -> Option<usize>
     instrs.iter().position(|instr| !instr.targets_below(count))
 }
 
-/// The same over their words.
+/// The first word whose target is not below the number of words.
 fn stray_word(words: &[Word]) -> Option<usize>
     ensures value { result ≡ spec.stray_target words.now }
     ensures bound { IfSome result (λ i. i < length words.now) }
@@ -85,7 +85,7 @@ fn ends_well(instrs: &[Instr]) -> bool
     }
 }
 
-/// The same over their words.
+/// Whether the last word ends the program.
 fn word_ends_well(words: &[Word]) -> bool
     ensures { result ≡ spec.ends_well words.now }
 {
@@ -220,7 +220,7 @@ impl Program {
         unknown(version, self.words.as_slice())
     }
 
-    /// The same program again.
+    /// A copy of the program.
     pub fn copy(&self, alloc: Global) -> Result<Program, AllocError>
         ensures { IfOk result (λ p. p ≡ self.now) }
     {

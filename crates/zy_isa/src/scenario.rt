@@ -317,7 +317,7 @@ impl Scenario {
         }
     }
 
-    /// The same scenario with these choices in place of its own. Both are dropped where they are refused. It takes no
+    /// This scenario with other choices in place of its own. Both are dropped where they are refused. It takes no
     /// memory.
     pub fn with_choices(self, choices: Vec<Choice>) -> Result<Scenario, ScenarioFault>
         ensures { HasChoices result self choices.items }
@@ -384,7 +384,7 @@ impl Scenario {
         self.choices.as_slice()
     }
 
-    /// The same scenario again.
+    /// A copy of the scenario.
     pub fn copy(&self, alloc: Global) -> Result<Scenario, AllocError>
         ensures { IfOk result (λ s. s ≡ self.now) }
     {

@@ -185,7 +185,7 @@ impl Word {
         Some(Word { bytes })
     }
 
-    /// The same word again.
+    /// A copy of the word.
     pub fn copy(&self) -> Word
         ensures { result ≡ self.now }
     {

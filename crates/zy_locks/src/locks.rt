@@ -115,7 +115,7 @@ impl Locks {
         self.holds_at(at, page, txn)
     }
 
-    /// The same, at the place of the lock.
+    /// Whether `txn` has a lock on the page, where its place is known.
     pub fn holds_at(&self, at: usize, page: u16, txn: u8) -> bool
         requires { IsLockPlace page txn self.now.locks at }
         ensures { result ≡ locks_locks.holds self.now.locks page txn }
@@ -171,7 +171,8 @@ impl Locks {
         self.put_at(at, page, txn, kind);
     }
 
-    /// The same, at the place of the lock. Who has the page alone keeps it so, whatever is asked for.
+    /// Locks the page like [`Locks::lock`], where the place of the lock is known. Who has the page alone keeps it so,
+    /// whatever is asked for.
     pub fn put_at(&mut self, at: usize, page: u16, txn: u8, kind: LockKind)
         requires place { IsLockPlace page txn self.old.locks at }
         requires free { conflict self.old.locks page txn kind ≡ false }

@@ -40,7 +40,7 @@ abbrev pub can_abort : Choice → LoggedReason → Bool
 can_abort c reason.Killed = is_kill c
 can_abort c r = is_run c
 
--- a choice can give the outcome that is told
+-- a choice can give the outcome of a line
 abbrev pub can_give : Choice → Told → Bool
 can_give c told.Started = is_start c
 can_give c told.BadMode = is_start c || is_finish c || is_push c

@@ -70,7 +70,7 @@ fn can_abort(choice: Choice, reason: LoggedReason) -> bool
     }
 }
 
-/// Whether a choice can give the outcome that is told, whatever the state.
+/// Whether a choice can give the outcome of a line, whatever the state.
 pub(crate) fn can_give(choice: Choice, told: Told) -> bool
     ensures { result ≡ spec.can_give choice told }
 {

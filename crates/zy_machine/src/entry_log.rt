@@ -55,7 +55,7 @@ impl SharedLog {
         })
     }
 
-    /// The same history, of which no step is made yet.
+    /// This history, of which no step is made yet.
     fn restart(&self) -> Result<SharedLog, AllocError>
         ensures { IfOk result (λ k. k ≡ record { made = []; ahead = self.now.made ++ self.now.ahead }) }
     {
@@ -171,7 +171,7 @@ impl EntryLog {
         }
     }
 
-    /// The same, where both are their own.
+    /// Becomes a copy of another history, where both are their own.
     fn set_own_to(&mut self, other: &EntryLog)
         requires { HasRoomFor other.now self.old }
         ensures made { entries_of self.new ≡ entries_of other.now }
@@ -200,7 +200,7 @@ impl EntryLog {
         }
     }
 
-    /// The same steps, to be shared by all copies of what they are part of.
+    /// These steps, to be shared by all copies of what they are part of.
     pub(crate) fn share(self, alloc: Global) -> Result<EntryLog, AllocError>
         ensures made { IfOk result (λ log. entries_of log ≡ entries_of self) }
         ensures ahead { IfOk result (λ log. ahead log ≡ ahead self) }

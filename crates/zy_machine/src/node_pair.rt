@@ -166,7 +166,7 @@ impl NodePair {
         self.any_step(scenario, choice)
     }
 
-    /// The same, out of line.
+    /// The step that a choice of any kind makes, out of line.
     #[inline(never)]
     fn any_step(&mut self, scenario: &Scenario, choice: Choice) -> Result<Answer, AllocError>
         requires possible { IsPossible scenario.now choice self.old }

@@ -60,21 +60,21 @@ fn same_node(x: &NodeStore, y: &NodeStore) -> bool
     same_locks(x.locks.locks(), y.locks.locks())
 }
 
-/// The same of two modes.
+/// Whether two modes are the same.
 fn same_mode(m: NodeMode, n: NodeMode) -> bool
     ensures { result ≡ true → m ≡ n }
 {
     m == n
 }
 
-/// The same of locks in order.
+/// Whether two lists have the same locks in the same order.
 fn same_locks(xs: &[Lock], ys: &[Lock]) -> bool
     ensures { result ≡ true → xs.now ≡ ys.now }
 {
     xs == ys
 }
 
-/// The same of the low keys of two wireframes.
+/// Whether two nodes' wireframes, if any, have the same low keys.
 pub(crate) fn same_wire(x: &Option<Wire>, y: &Option<Wire>) -> bool
     ensures { result ≡ true → lows_in x.now ≡ lows_in y.now }
 {
@@ -85,7 +85,7 @@ pub(crate) fn same_wire(x: &Option<Wire>, y: &Option<Wire>) -> bool
     }
 }
 
-/// The same, where both are there.
+/// Whether two wireframes have the same low keys.
 fn same_lows(x: &Wire, y: &Wire) -> bool
     ensures { result ≡ true → x.now.lows ≡ y.now.lows }
 {
@@ -100,7 +100,7 @@ fn same_lows(x: &Wire, y: &Wire) -> bool
     true
 }
 
-/// The same of the messages on their way.
+/// Whether two links carry the same messages.
 pub(crate) fn same_messages(x: &Link, y: &Link) -> bool
     ensures { result ≡ true → messages_of x.now.messages ≡ messages_of y.now.messages }
 {
@@ -115,7 +115,7 @@ pub(crate) fn same_messages(x: &Link, y: &Link) -> bool
     true
 }
 
-/// The same of two messages.
+/// Whether two messages are the same.
 fn same_message(x: &Message, y: &Message) -> bool
     ensures { result ≡ true → message_of x.now ≡ message_of y.now }
 {
@@ -166,7 +166,7 @@ fn live_alike(x: &Txn, y: &Txn) -> bool
     same_status(x.status(), y.status()) && same_rows(x.rows(), y.rows())
 }
 
-/// The same of two transactions.
+/// Whether two transactions are the same.
 fn same_txn(x: &Txn, y: &Txn) -> bool
     ensures { result ≡ true → x.now ≡ y.now }
 {
@@ -188,28 +188,28 @@ fn same_txn(x: &Txn, y: &Txn) -> bool
     x.done() == y.done()
 }
 
-/// The same of how far two transactions are.
+/// Whether two transactions are in the same state.
 fn same_status(x: Status, y: Status) -> bool
     ensures { result ≡ true → x ≡ y }
 {
     x == y
 }
 
-/// The same of two nodes' names.
+/// Whether two names are of the same node.
 fn is_node(m: Node, n: Node) -> bool
     ensures { result ≡ true → m ≡ n }
 {
     m == n
 }
 
-/// The same of registers.
+/// Whether two transactions have the same values in their registers.
 fn same_regs(xs: &[u32], ys: &[u32]) -> bool
     ensures { result ≡ true → xs.now ≡ ys.now }
 {
     xs == ys
 }
 
-/// The same of commits in order.
+/// Whether two lists have the same commits in the same order.
 fn same_commits(xs: &[CommitRecord], ys: &[CommitRecord]) -> bool
     ensures { result ≡ true → xs.now ≡ ys.now }
 {

@@ -19,7 +19,7 @@ pub enum NodeMode {
     DInit,
     /// Transactions run here, and it asks for the pages that they need.
     DDual,
-    /// The same, and the source runs none any more; pages are missing.
+    /// Transactions run here alone, and it asks for the pages that they need, until none is missing.
     DFinish,
 }
 

@@ -32,7 +32,7 @@ pub fn next_page(wire: &Option<Wire>, low: u16, last: u16) -> Option<RangePage>
     }
 }
 
-/// The same in a wireframe.
+/// The next page among those of a wireframe.
 fn next_of(wire: &Wire, low: u16, last: u16) -> Option<RangePage>
     ensures next { IsNextInRange result wire.now.lows low last }
     ensures few { IfSome result (λ e. e.page < wire.now.pages) }

@@ -17,7 +17,7 @@ pub fn same_page(x: &Page, y: &Page) -> bool
     x.rows() == y.rows()
 }
 
-/// The same of two slots.
+/// Whether two slots have the same page, or are both empty.
 fn same_slot(x: &Option<Page>, y: &Option<Page>) -> bool
     ensures { result ≡ true → x.now ≡ y.now }
 {
@@ -28,7 +28,7 @@ fn same_slot(x: &Option<Page>, y: &Option<Page>) -> bool
     }
 }
 
-/// The same of the pages of some slots; empty slots behind the others make no difference.
+/// Whether the slots have the same pages; empty slots behind the others make no difference.
 pub(crate) fn same_slots(xs: &[Option<Page>], ys: &[Option<Page>]) -> bool
     ensures { result ≡ true → laid_out xs.now ≡ laid_out ys.now }
 {

@@ -142,7 +142,7 @@ pub record TellsDid (line : LogLine) : Type 0 where
   pub run : line.choice ≡ Run node txn
   pub did : line.told ≡ Some told.Did
 
--- what is told is an outcome of which nothing comes
+-- the outcome changes nothing
 abbrev pub is_nothing : Told → Bool
 is_nothing told.BadMode = true
 is_nothing told.Idle = true

@@ -23,7 +23,7 @@ fn tells_did(line: &LogLine) -> bool
     matches!(line.choice, Choice::Run(_, _)) && matches!(line.told, Some(Told::Did))
 }
 
-/// Whether what is told is an outcome of which nothing comes.
+/// Whether an outcome changes nothing.
 fn is_nothing(told: Told) -> bool
     ensures { result ≡ spec.is_nothing told }
 {

@@ -47,7 +47,7 @@ fn meet(
     }
 }
 
-/// The same of each actor's next line.
+/// Meets each actor's next line.
 fn meet_each(
     plan: &Plan,
     reached: &mut Reached,

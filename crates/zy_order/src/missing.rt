@@ -61,7 +61,7 @@ fn try_one(
     )
 }
 
-/// The same of each choice.
+/// Tries each choice of which nothing may have been logged.
 pub(crate) fn try_each(
     plan: &Plan,
     reached: &mut Reached,

@@ -161,7 +161,7 @@ impl IndexNode {
         upper
     }
 
-    /// The same node again.
+    /// A copy of the node.
     pub fn copy(&self) -> IndexNode
         ensures { result ≡ self.now }
     {

@@ -266,7 +266,7 @@ impl Tree {
         self.nodes[id.index()].insert(at, entry);
     }
 
-    /// The same nodes again.
+    /// A copy of the tree.
     pub fn copy(&self, alloc: Global) -> Result<Tree, AllocError>
         ensures nodes { IfOk result (λ copy. copy.nodes ≡ self.now.nodes) }
         ensures root { IfOk result (λ copy. copy.root ≡ self.now.root) }

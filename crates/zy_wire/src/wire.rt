@@ -216,7 +216,7 @@ impl Wire {
         self.lows.push_reserved(low);
     }
 
-    /// The same low keys again, with the same greatest number of pages.
+    /// A copy, with the same greatest number of pages.
     pub fn copy(&self, alloc: Global) -> Result<Wire, AllocError>
         ensures { IfOk result (λ copy. (copy.lows ≡ self.now.lows) × (copy.pages ≡ self.now.pages)) }
     {
