@@ -213,8 +213,8 @@ fn put_nodes(machine: &Machine, digest: &mut Digest) {
 fn put_pages(machine: &Machine, digest: &mut Digest) {
     digest.number(u64::from(machine.page_count()));
     for p in 0..machine.page_count() {
-        digest.debug(&machine.place(p));
-        if let Some(page) = machine.page(p) {
+        if let Some((place, page)) = machine.located(p) {
+            digest.debug(&place);
             page.put_into(digest);
         }
     }

@@ -20,9 +20,9 @@ pub fn digest(part: StatePart, machine: &Machine) -> u64 {
         mode_number(machine.mode(Node::B)),
     );
     for p in 0..machine.page_count() {
-        digest = mixed(digest, place_number(machine.place(p)));
-        if let Some(page) = machine.page(p) {
-            digest = mixed_rows(mixed(digest, u64::from(page.low())), page.rows());
+        if let Some((place, page)) = machine.located(p) {
+            digest = mixed(mixed(digest, place_number(place)), u64::from(page.low()));
+            digest = mixed_rows(digest, page.rows());
         }
     }
     for t in 0..machine.txn_count() {

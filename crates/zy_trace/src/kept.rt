@@ -110,11 +110,11 @@ pub(crate) fn is_kept(before: &Machine, after: &Machine, a: Rests<'_>, b: Rests<
     requires b { AreRests before.now.state.b.locks after.now.state.b.locks b }
     ensures { result ≡ true → page_reply before.now.state p ≡ page_reply after.now.state p }
 {
-    let (Some(old), Some(new)) = (before.page(p), after.page(p)) else {
+    let (Some((old_place, old)), Some((new_place, new))) = (before.located(p), after.located(p)) else {
         return false;
     };
     let page = same_page(old, new);
-    let place = same_place(before.place(p), after.place(p));
+    let place = same_place(old_place, new_place);
     let at_a = are_elsewhere(a, p);
     let at_b = are_elsewhere(b, p);
     page & place & at_a & at_b

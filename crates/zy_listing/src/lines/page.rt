@@ -44,11 +44,8 @@ pub fn page_line(machine: &Machine, p: u16, line: &mut LineBuffer) -> Result<(),
     requires { IsSome (page_in p (all_leaves machine.now.state)) }
     ensures { Appended result line.old line.new (page_text machine.now.state p) }
 {
-    PageLine {
-        place: machine.place(p),
-        page: machine.page(p).unwrap(),
-    }
-    .append(line)
+    let (place, page) = machine.located(p).unwrap();
+    PageLine { place, page }.append(line)
 }
 
 /// All pages, by number.

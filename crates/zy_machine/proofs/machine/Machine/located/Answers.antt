@@ -5,7 +5,7 @@ use Rattle.zy_machine.specs.Histories.{choices_of}
 use Rattle.zy_machine.specs.EntryLogs.{entries_of}
 use Rattle.zy_machine.specs.NodePairs.{state_of}
 use Rattle.zy_machine.proofs.PlaceLemmas.{page_in-reached, place_by}
-use Rattle.zy_machine.proofs.machine.Machine.find.Goals as goal
+use Rattle.zy_machine.proofs.machine.Machine.located.Goals as goal
 
 pub returns-in-Some : goal.returns-in-Some
 returns-in-Some c =
