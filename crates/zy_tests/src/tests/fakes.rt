@@ -1,9 +1,6 @@
-//! Streams that give or take one byte a call, and fail at one of them; a stream that notes its calls, and lines for it.
-ghost use Rattle.std.specs.Prelude.{[], ◌∷◌};
+//! Streams that give or take one byte a call, and fail at one of them.
 
-use std::alloc::AllocError;
 use std::io::{self, ErrorKind, Read, Write};
-use zy_io::{LineBuffer, Lines};
 
 /// Gives one byte a call; one call fails.
 #[derive(Drop)]
@@ -63,42 +60,6 @@ impl Write for Drip {
             Err(io::Error::from(ErrorKind::Other))
         } else {
             Ok(())
-        }
-    }
-}
-
-/// Takes all bytes of each call, and notes how many they were.
-#[derive(Drop)]
-pub struct Pieces {
-    pub lengths: Vec<usize>,
-}
-
-impl Write for Pieces {
-    fn write(&mut self, bytes: &[u8]) -> io::Result<usize> {
-        self.lengths.push(bytes.len())?;
-        Ok(bytes.len())
-    }
-
-    fn flush(&mut self) -> io::Result<()> {
-        Ok(())
-    }
-}
-
-/// A list of two lines.
-pub struct TwoLines<'a>(pub &'a str, pub &'a str);
-
-impl Lines for TwoLines<'_> {
-    ghost texts = { λ s. s.0.now ∷ s.1.now ∷ [] };
-
-    fn len(&self) -> usize {
-        2
-    }
-
-    fn append(&self, place: usize, line: &mut LineBuffer) -> Result<(), AllocError> {
-        if place == 0 {
-            line.push_str(self.0)
-        } else {
-            line.push_str(self.1)
         }
     }
 }

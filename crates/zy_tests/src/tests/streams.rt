@@ -1,14 +1,14 @@
 //! Reading and writing over streams that give and take little, or fail.
 
-use super::fakes::{Drip, Pieces, Trickle, TwoLines};
+use super::fakes::{Drip, Trickle};
 use std::alloc::Global;
 use std::io::ErrorKind;
 use std::test::Fail;
 use zy_io::reading::read_all;
 use zy_io::writing::write_all;
 use zy_io::{
-    AllLines, CountingReader, CountingWriter, LineBuffer, One, ReadFault, Section, Sink, Source,
-    TextFault, WriteFault, sections,
+    CountingReader, CountingWriter, LineBuffer, One, ReadFault, Section, Sink, Source, TextFault,
+    WriteFault, sections,
 };
 
 const LISTING: &[u8] = b"3=4\n50=60\nend\n";
@@ -61,18 +61,6 @@ fn a_failed_write_leaves_a_prefix(rt: HostRuntime) {
             assert_eq!(rt; drip.held.len() as u64, bad - 1);
         }
     }
-}
-
-#[test]
-fn each_line_goes_out_by_itself(rt: HostRuntime) {
-    let mut line = LineBuffer::new(rt.alloc());
-    let mut sink = CountingWriter::new(Pieces {
-        lengths: Vec::new(rt.alloc()),
-    });
-    let lines = sections!(One("3=4"), AllLines(TwoLines("50=60", "end")));
-    assert_eq!(rt; lines.write(&mut sink, &mut line), Ok(()));
-    let pieces = sink.into_inner();
-    assert_eq!(rt; pieces.lengths.as_slice(), &[4, 6, 4]);
 }
 
 #[test]
