@@ -404,7 +404,7 @@ SCRIPT_FAULTS = [
     script('store: suite counts what a wrong round came to', 'examples/store/suite', "if verdict == 'explained':", 'if True:', 'store'),
     script('store: suite lists what came', 'examples/store/suite', 'not in came:', 'in came:', 'store'),
     script('store: suite says explained for all', 'examples/store/suite', "set(total) == {'explained'}", 'True', 'store'),
-    script('store: --gap of try ignored', 'examples/store/rounds.py', "('--gap', options.gap), ", '', 'store'),
+    script('store: --gap of try ignored', 'examples/store/rounds.py', "('--gap', options.gap)", "('--gap', None)", 'store'),
     script('store: --states of try ignored', 'examples/store/rounds.py', "(('--gap', options.gap), ('--states', options.states))", "(('--gap', options.gap),)", 'store'),
     script('store: the flags of try ask for no order', 'examples/store/try', 'options.json, question(options))', 'options.json)', 'store'),
     script('store: the flags of suite ask for no order', 'examples/store/suite', ', words=question(options)).verdict', ').verdict', 'store'),
