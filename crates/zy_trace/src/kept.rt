@@ -110,7 +110,8 @@ pub(crate) fn is_kept(before: &Machine, after: &Machine, a: Rests<'_>, b: Rests<
     requires b { AreRests before.now.state.b.locks after.now.state.b.locks b }
     ensures { result ≡ true → page_reply before.now.state p ≡ page_reply after.now.state p }
 {
-    let (Some((old_place, old)), Some((new_place, new))) = (before.located(p), after.located(p)) else {
+    let (Some((old_place, old)), Some((new_place, new))) = (before.located(p), after.located(p))
+    else {
         return false;
     };
     let page = same_page(old, new);
