@@ -2,7 +2,7 @@
 
 use clap::{Arg, ArgAction, ArgMatches, Command, value_parser};
 use std::alloc::{AllocError, Global};
-use zy_engine::{Format, SearchOptions, Wording};
+use zy_engine::{Format, RunFormat, SearchOptions, Wording};
 use zy_ordering::{LogFormat, OrderOptions};
 use zy_search::ChoiceKinds;
 
@@ -63,14 +63,8 @@ pub struct Checkpoints {
 /// What is printed of a scenario.
 #[derive(Clone, Copy, Debug, PartialEq, Eq)]
 pub enum Conversion {
-    /// The listing of its run.
-    Run(Format),
-    /// The steps of its run, each as an object of JSON.
-    Objects(Format),
-    /// The trace of its run.
-    Trace(Format),
-    /// The steps of its trace, each as an object of JSON.
-    TracedObjects(Format),
+    /// Something of its run.
+    Run(RunFormat, Format),
     /// The listing of its run by three threads.
     Threads(Format),
     /// The image of a text.
@@ -453,22 +447,22 @@ fn task_of<'a>(name: &str, words: &ArgMatches<'a>) -> Option<Task<'a>> {
 
 /// What `run` prints: the listing, or with `--json` the steps.
 fn run_of(words: &ArgMatches<'_>) -> Conversion {
-    let format = format_of(words);
-    if words.get_flag("json") {
-        Conversion::Objects(format)
+    let shown = if words.get_flag("json") {
+        RunFormat::Objects
     } else {
-        Conversion::Run(format)
-    }
+        RunFormat::Listing
+    };
+    Conversion::Run(shown, format_of(words))
 }
 
 /// What `trace` prints: the trace, or with `--json` its steps.
 fn trace_of(words: &ArgMatches<'_>) -> Conversion {
-    let format = format_of(words);
-    if words.get_flag("json") {
-        Conversion::TracedObjects(format)
+    let shown = if words.get_flag("json") {
+        RunFormat::TracedObjects
     } else {
-        Conversion::Trace(format)
-    }
+        RunFormat::Trace
+    };
+    Conversion::Run(shown, format_of(words))
 }
 
 /// What a search is to go by; what was left out is `differs`.

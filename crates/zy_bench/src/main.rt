@@ -53,15 +53,12 @@ use std::{fs, io};
 use zy_check::Verdict;
 use zy_diagnostics::CommandName as Reader;
 use zy_diagnostics::line::whole_line;
-use zy_engine::checking::check_input;
+use zy_engine::checking::check_bytes;
 use zy_engine::debugging::{MAX_EVERY, MAX_RING, debug_bytes};
-use zy_engine::engine::{
-    asm_bytes, dis_bytes, objects_bytes, run_bytes, trace_bytes, traced_bytes,
-};
+use zy_engine::engine::{convert_bytes, run_bytes};
 use zy_engine::threading::threads_bytes;
-use zy_engine::{BenchFault, Format};
+use zy_engine::{BenchFault, Format, RunFormat, SourceFormat};
 use zy_io::CountingReader;
-use zy_io::reading::read_all;
 use zy_machine::Machine;
 use zy_text::cut::cut_len;
 use zy_threads::FreeGate;
@@ -103,20 +100,8 @@ fn convert<R: Eprint + AllocGlobal + Threads + Wait + Sync, G: Read, W: Write>(
     let source = &mut CountingReader::new(given);
     let alloc = rt.alloc();
     match conversion {
-        Conversion::Run(format) => {
-            let machine = run_bytes(alloc, format, source, output, input)?;
-            close_run(rt, &machine, output)
-        }
-        Conversion::Objects(format) => {
-            let machine = objects_bytes(alloc, format, source, output, input)?;
-            close_run(rt, &machine, output)
-        }
-        Conversion::Trace(format) => {
-            let machine = trace_bytes(alloc, format, source, output, input)?;
-            close_run(rt, &machine, output)
-        }
-        Conversion::TracedObjects(format) => {
-            let machine = traced_bytes(alloc, format, source, output, input)?;
+        Conversion::Run(shown, format) => {
+            let machine = run_bytes(alloc, format, shown, source, output, input)?;
             close_run(rt, &machine, output)
         }
         Conversion::Threads(format) => {
@@ -125,11 +110,13 @@ fn convert<R: Eprint + AllocGlobal + Threads + Wait + Sync, G: Read, W: Write>(
             close_run(rt, &machine, output)
         }
         Conversion::Asm => {
-            asm_bytes(alloc, source, output, input)?;
+            let image = SourceFormat::Image;
+            convert_bytes(alloc, Format::Text, image, source, output, input)?;
             close(output)
         }
         Conversion::Dis => {
-            dis_bytes(alloc, source, output, input)?;
+            let text = SourceFormat::Text;
+            convert_bytes(alloc, Format::Image, text, source, output, input)?;
             close(output)
         }
     }
@@ -154,9 +141,9 @@ fn check<R: Eprint + AllocGlobal, G: Read, W: Write>(
 ) -> Result<u8, BenchFault>
     requires { output.old.1 < u64.MAX }
 {
-    *input = read_all(rt.alloc(), &mut CountingReader::new(given))?;
+    let mut source = CountingReader::new(given);
+    let verdict = check_bytes(rt.alloc(), &mut source, output, input)?;
     let listing = input.as_slice();
-    let verdict = check_input(rt.alloc(), listing, output)?;
     match verdict {
         Verdict::Table => {
             flush(output)?;
@@ -252,8 +239,10 @@ fn unprinted(error: &io::Error) -> BenchFault {
 /// The command that a task is of.
 fn command_of(task: Task<'_>) -> Reader {
     match task {
-        Task::Convert(Conversion::Run(_) | Conversion::Objects(_)) => Reader::Run,
-        Task::Convert(Conversion::Trace(_) | Conversion::TracedObjects(_)) => Reader::Trace,
+        Task::Convert(Conversion::Run(shown, _)) => match shown {
+            RunFormat::Listing | RunFormat::Objects => Reader::Run,
+            RunFormat::Trace | RunFormat::TracedObjects => Reader::Trace,
+        },
         Task::Convert(Conversion::Threads(_)) => Reader::Threads,
         Task::Convert(Conversion::Asm) => Reader::Asm,
         Task::Convert(Conversion::Dis) => Reader::Dis,
