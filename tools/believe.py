@@ -22,11 +22,12 @@ PAGE = os.path.join(TOP, 'docs', 'believe.md')
 PARTS = [
     ('The step table', 'One step, and the run of a schedule from the opening.', ['zy_table.specs.Play.step', 'zy_table.specs.Play.play',
                                                                                'zy_table.specs.Play.opening', 'zy_table.specs.Play.entries'], []),
-    ('The laws', 'What holds of every schedule.', [],
-     ['zy_laws/src/laws.rt', 'zy_frames/src/laws.rt', 'zy_commute/src/laws.rt', 'zy_alike/src/laws.rt', 'zy_pack/src/laws.rt', 'zy_parts/src/laws.rt',
-      'zy_memo/src/laws.rt', 'zy_serial/src/order.rt', 'zy_serial/src/explaining.rt']),
+    ('Serializability and ownership', 'What holds of every schedule.', [],
+     ['zy_laws/src/laws.rt', 'zy_machine/src/machine.rt', 'zy_serial/src/order.rt', 'zy_serial/src/explaining.rt']),
+    ('Which steps commute, and which states are alike', 'What the searches rely on.', [],
+     ['zy_frames/src/laws.rt', 'zy_commute/src/laws.rt', 'zy_alike/src/laws.rt', 'zy_pack/src/laws.rt', 'zy_parts/src/laws.rt', 'zy_memo/src/laws.rt']),
     ('Texts, images and listings', 'What `run`, `trace`, `asm`, `dis` and `check` read and write.', [],
-     ['zy_engine/src/engine.rt', 'zy_engine/src/checking.rt', 'zy_listing/src/laws.rt', 'zy_check/src/laws.rt', 'zy_trace/src/laws.rt']),
+     ['zy_engine/src/engine.rt', 'zy_engine/src/checking.rt', 'zy_first/src/run.rt', 'zy_listing/src/laws.rt', 'zy_check/src/laws.rt', 'zy_trace/src/laws.rt']),
     ('Threads and the debugger', 'What `threads` and `debug` do.', [],
      ['zy_engine/src/threading.rt', 'zy_engine/src/debugging.rt', 'zy_engine/src/laws.rt', 'zy_threads/src/laws.rt', 'zy_console/src/laws.rt']),
     ('Goals and the search', 'What `search` and `find` answer, and what the words of a goal mean.', [],
@@ -38,10 +39,16 @@ PARTS = [
 
 HEAD = '''# What must be believed
 
-A contract is proved of the code, but that it says what you want you must see for yourself: it speaks of the definitions in `specs/`, and of the types of
-the code. This page lists those that the contracts of the commands and the laws use, directly or through others, each file after those that it uses. What is
-in `specs/` and not listed here is there for proofs, or for contracts between crates, of which the promises name some. Of the standard library's definitions
-they use those of numbers, lists, options, results, maps and streams.
+The prover checks that the code meets its contracts. Whether a contract says what you want is for you to judge. Contracts use the definitions in `specs/` and
+the types of the code. This page lists those that the contracts of the commands and the laws use, directly or through others, each file after those that it
+uses; a file has a row in each part that adds definitions of it, and *New* counts their lines. What is in `specs/` and not listed here is there for proofs, or
+for contracts between crates, of which the promises name some. Of the standard library's definitions they use those of numbers, lists, options, results, maps
+and streams.
+
+For the first theorem of the README read the first two parts: it is the contract of `run_all` in
+[`zy_machine`](../crates/zy_machine/src/machine.rt), and the laws `source_first`, `real_time`, `one_owner` and `serializable` in
+[`zy_laws`](../crates/zy_laws/src/laws.rt). [The promises](promises.md) name the function of each theorem, and [the step table](step-table.md) the definition,
+function and proof of each of its lines.
 
 `tools/believe.py` makes this page from the imports of the files, and a test compares it.
 '''
@@ -219,7 +226,7 @@ def part(library, title, about, items):
     types = len(items) - len(definitions)
     yield '\n## %s\n\n%s %s of %s, and %s of the code.\n' % (
         title, about, counted(len(definitions), 'definition'), counted(lines, 'line'), counted(types, 'type'))
-    yield '| File | Of it | What it defines |\n|---|---|---|'
+    yield '| File | New | What it defines |\n|---|---|---|'
     yield from (row(*file) for file in in_order(library, items))
 
 
