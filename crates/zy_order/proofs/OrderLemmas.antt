@@ -1,5 +1,5 @@
 -- Orders of lines, and ways along the logs: the choices of one are the other.
-use Rattle.std.proofs.Common.{◌≡◌, ℕ, inl, inr, List, [], ◌∷◌, length, refl, sym, subst, Bool, slice_get, Some, true}
+use Rattle.std.proofs.Common.{◌≡◌, ℕ, inl, inr, List, [], ◌∷◌, length, refl, sym, subst, Bool, true}
 use Rattle.std.specs.Prelude.{if◌then◌else◌}
 use Rattle.zy_isa.specs.declared.node.Actor.{Actor}
 use Rattle.zy_isa.specs.declared.node.Actor.TheVariants.{C, A, B}
@@ -15,7 +15,7 @@ use Rattle.zy_logs.specs.Agrees.{Agrees}
 use Rattle.zy_order.specs.declared.logs.Logs.{Logs}
 use Rattle.zy_order.specs.declared.cursors.Cursor.{Cursor}
 use Rattle.zy_order.specs.declared.cursors.Cursors.{Cursors}
-use Rattle.zy_order.specs.Gaps.{gaps_of, unlogged, IsMissing}
+use Rattle.zy_order.specs.Gaps.{gaps_of, unlogged}
 use Rattle.zy_order.specs.Orders.{Fits, entry_at, lines_of, choices_of}
 use Rattle.zy_order.specs.Ways.{log_of, cursor_of, cursor, passed, filled, with_cursor, advanced, with_missing, IsWithin, Leads, IsWay}
 use Rattle.zy_order.proofs.GapLemmas.{Ahead, ahead_none, ahead_line, ahead_missing, ahead_next, at_end}

@@ -19,7 +19,7 @@ use Rattle.zy_order.specs.declared.cursors.Cursors.{Cursors}
 use Rattle.zy_order.specs.Gaps.{gaps_of}
 use Rattle.zy_order.specs.Orders.{entry_at}
 use Rattle.zy_order.specs.Ways.{log_of, cursor_of, cursor, at_start, gap_at, passed, filled, with_cursor, step_count}
-use Rattle.zy_order.specs.Ways.{AreMatched, IsIn, IsWithin, HasNext, HasGap, Leads, IsWay, AreLinesOf}
+use Rattle.zy_order.specs.Ways.{AreMatched, IsIn, IsWithin, HasNext, Leads, IsWay, AreLinesOf}
 
 -- ---- in one log
 

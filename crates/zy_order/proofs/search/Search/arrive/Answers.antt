@@ -1,8 +1,8 @@
 -- The machine was kept, or it goes along the path.
-use Rattle.std.proofs.Common.{◌≡◌, ◌+◌, length, refl, arith}
+use Rattle.std.proofs.Common.{◌≡◌, ◌+◌, length, arith}
 use Rattle.zy_search.specs.Visits.{path_at, length_at, IsHere}
 use Rattle.zy_search.proofs.ShelfLemmas.{in_any_case}
-use Rattle.zy_order.specs.Reaches.{cursors_at, Adds, StandsAt}
+use Rattle.zy_order.specs.Reaches.{cursors_at}
 use Rattle.zy_order.proofs.LoopLemmas.{on_ok_both}
 use Rattle.zy_order.proofs.PushLemmas.{adds_taken, search_taken}
 use Rattle.zy_order.proofs.WayLemmas.{way_fewer}

@@ -6,7 +6,6 @@ use Rattle.zy_order.specs.declared.line.Met.{Met}
 use Rattle.zy_order.specs.declared.line.Met.TheVariants as met
 use Rattle.zy_order.specs.Reaches.{Adds, FollowsAlone, IsMetBy, MayBeAlone}
 use Rattle.zy_order.proofs.LoopLemmas.{if_ok, alone_leads}
-use Rattle.zy_order.proofs.PushLemmas.{adds_none}
 use Rattle.zy_order.proofs.search.Search.follow_of.Goals as goal
 
 pub meet_line-requires-clause-next : goal.meet_line-requires-clause-next

@@ -2,7 +2,6 @@
 use Rattle.std.proofs.Common.{◌≡◌, ◌∙◌, Bool, true, ap, subst, inr}
 use Rattle.zy_isa.specs.declared.node.Actor.{Actor}
 use Rattle.zy_isa.specs.Choices.{actor_of}
-use Rattle.zy_order.specs.declared.cursors.Cursors.{Cursors}
 use Rattle.zy_order.specs.Ways.{with_missing, HasGap}
 use Rattle.zy_order.specs.Reaches.{state_by, IsKnown, IsTried, Adds}
 use Rattle.zy_order.proofs.LoopLemmas.{if_ok, missing_few, tried_by}
