@@ -71,8 +71,8 @@ impl Search {
         go_to(plan, &self.reached, at, machine)
     }
 
-    /// Follows the steps that go on from where the path at a place leads: one line alone, if that may be, and else all of
-    /// them. It answers no where there is no room for what one of them leads to. The machine is a scratch machine.
+    /// Follows the steps that go on from where the path at a place leads: one line alone, if that may be, and else all
+    /// of them. It answers no where there is no room for what one of them leads to. The machine is a scratch machine.
     pub(crate) fn expand(
         &mut self,
         plan: &Plan,

@@ -9,9 +9,9 @@ use zy_isa::Choice;
 use zy_machine::{Fault, StatePart};
 
 impl Search {
-    /// Makes a choice at a position, as that of a step that its actor's log lacks, if one may be missing there, and keeps
-    /// where it leads. A step that changes nothing leads nowhere else: whatever comes behind it comes without it. It
-    /// answers no where there is no room for what is kept.
+    /// Makes a choice at a position, as that of a step that its actor's log lacks, if one may be missing there, and
+    /// keeps where it leads. A step that changes nothing leads nowhere else: whatever comes behind it comes without it.
+    /// It answers no where there is no room for what is kept.
     fn try_one(&mut self, here: Position, choice: Choice) -> Result<bool, Fault>
         requires at { IsAt here self.old }
         requires named { names_below (length here.plan.now.start.scenario.programs) choice ≡ true }

@@ -77,8 +77,8 @@ impl Search {
         Ok(Some(first))
     }
 
-    /// Keeps the path that goes on from a position by a choice, with the cursors where it leads, and the twin's machine,
-    /// which is where it leads.
+    /// Keeps the path that goes on from a position by a choice, with the cursors where it leads, and the twin's
+    /// machine, which is where it leads.
     fn keep(
         &mut self,
         here: Position,

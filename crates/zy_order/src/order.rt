@@ -160,10 +160,11 @@ fn plan_from(
     })
 }
 
-/// Looks for an order of the lines of three logs, one for each actor, and of steps that are missing from the logs, in which
-/// each line agrees with what comes of its choice, where the choices are made from a machine's state. The logs are mixed in
-/// any way: only the order of each actor's own lines counts. The gaps say how many steps may be missing, and where. The
-/// search goes depth first, and gives up where it would reach more states than `most`. The watch learns how far it is.
+/// Looks for an order of the lines of three logs, one for each actor, and of steps that are missing from the logs, in
+/// which each line agrees with what comes of its choice, where the choices are made from a machine's state. The logs
+/// are mixed in any way: only the order of each actor's own lines counts. The gaps say how many steps may be missing,
+/// and where. The search goes depth first, and gives up where it would reach more states than `most`. The watch learns
+/// how far it is.
 pub fn order<W: Watch>(
     alloc: Global,
     start: &Machine,
