@@ -30,7 +30,7 @@ use Rattle.zy_order.specs.Gaps.{gaps_of}
 use Rattle.zy_order.specs.Orders.{entry_at}
 use Rattle.zy_search.specs.Stuck.{is_still}
 use Rattle.zy_search.proofs.StillSteps.{still_stays}
-use Rattle.zy_order.specs.Ways.{log_of, cursor_of, cursor, gap_at, advanced, with_missing}
+use Rattle.zy_order.specs.Ways.{log_of, cursor_of, cursor, gap_at, passed, filled, moved, advanced}
 use Rattle.zy_order.specs.Ways.{IsNoFurther, AreMatched, HasGap, Leads, IsWay}
 use Rattle.zy_order.specs.Reaches.{is_nothing, TellsDid, TellsNothing, MayBeAlone}
 use Rattle.zy_order.proofs.NeedLemmas.{no_further_self}
@@ -38,53 +38,29 @@ use Rattle.zy_order.proofs.WayLemmas.{same_line}
 
 -- ---- two actors
 
--- an actor's cursor is where it was behind a line of another
-beside_advanced : (x y : Actor) (g : Cursors) → (y ≡ x → ⊥) → cursor_of y (advanced x g) ≡ cursor_of y g
-beside_advanced C C g far = absurd (far refl)
-beside_advanced C A g far = refl
-beside_advanced C B g far = refl
-beside_advanced A C g far = refl
-beside_advanced A A g far = absurd (far refl)
-beside_advanced A B g far = refl
-beside_advanced B C g far = refl
-beside_advanced B A g far = refl
-beside_advanced B B g far = absurd (far refl)
+-- an actor's cursor is where it was behind a step of another
+beside : (f : Cursor → Cursor) (x y : Actor) (g : Cursors) → (y ≡ x → ⊥) → cursor_of y (moved f x g) ≡ cursor_of y g
+beside f C C g far = absurd (far refl)
+beside f C A g far = refl
+beside f C B g far = refl
+beside f A C g far = refl
+beside f A A g far = absurd (far refl)
+beside f A B g far = refl
+beside f B C g far = refl
+beside f B A g far = refl
+beside f B B g far = absurd (far refl)
 
--- and behind a missing step of another
-beside_missing : (x y : Actor) (g : Cursors) → (y ≡ x → ⊥) → cursor_of y (with_missing x g) ≡ cursor_of y g
-beside_missing C C g far = absurd (far refl)
-beside_missing C A g far = refl
-beside_missing C B g far = refl
-beside_missing A C g far = refl
-beside_missing A A g far = absurd (far refl)
-beside_missing A B g far = refl
-beside_missing B C g far = refl
-beside_missing B A g far = refl
-beside_missing B B g far = absurd (far refl)
-
--- a line may be matched before that of another actor
-advanced_swap : (x y : Actor) (g : Cursors) → advanced x (advanced y g) ≡ advanced y (advanced x g)
-advanced_swap C C g = refl
-advanced_swap C A g = refl
-advanced_swap C B g = refl
-advanced_swap A C g = refl
-advanced_swap A A g = refl
-advanced_swap A B g = refl
-advanced_swap B C g = refl
-advanced_swap B A g = refl
-advanced_swap B B g = refl
-
--- and before a missing step of another actor
-missing_swap : (x y : Actor) (g : Cursors) → (y ≡ x → ⊥) → advanced x (with_missing y g) ≡ with_missing y (advanced x g)
-missing_swap C C g far = absurd (far refl)
-missing_swap C A g far = refl
-missing_swap C B g far = refl
-missing_swap A C g far = refl
-missing_swap A A g far = absurd (far refl)
-missing_swap A B g far = refl
-missing_swap B C g far = refl
-missing_swap B A g far = refl
-missing_swap B B g far = absurd (far refl)
+-- steps of two actors may change places
+moved_swap : (f k : Cursor → Cursor) (x y : Actor) (g : Cursors) → (y ≡ x → ⊥) → moved f x (moved k y g) ≡ moved k y (moved f x g)
+moved_swap f k C C g far = absurd (far refl)
+moved_swap f k C A g far = refl
+moved_swap f k C B g far = refl
+moved_swap f k A C g far = refl
+moved_swap f k A A g far = absurd (far refl)
+moved_swap f k A B g far = refl
+moved_swap f k B C g far = refl
+moved_swap f k B A g far = refl
+moved_swap f k B B g far = absurd (far refl)
 
 -- actors are the same, or are not
 same_or_not : (x y : Actor) → (x ≡ y) ⊎ (x ≡ y → ⊥)
@@ -105,7 +81,7 @@ module _ (count : ℕ) (l : Logs) (x : Actor) (g : Cursors) (e : Entry) (to : Cu
   leads_beside : Leads count l (advanced x g) e (advanced x to)
   leads_beside =
       let y = actor_of e.choice in
-      let same = beside_advanced x y g far in
+      let same = beside passed x y g far in
       elim leads [
         | inl by ↦ inl (
           record {
@@ -114,11 +90,11 @@ module _ (count : ℕ) (l : Logs) (x : Actor) (g : Cursors) (e : Entry) (to : Cu
             choice = by.0.choice;
             agrees = by.0.agrees;
           },
-          ap (advanced x) by.1 ∙ advanced_swap x y g,
+          ap (advanced x) by.1 ∙ moved_swap passed passed x y g far,
         )
         | inr by ↦ inr (
           record { named = by.0.named; gap = subst (λ (k : Cursor). k.missing < gap_at (gaps_of y l.gaps) k) (sym same) by.0.gap },
-          ap (advanced x) by.1 ∙ missing_swap x y g far,
+          ap (advanced x) by.1 ∙ moved_swap passed filled x y g far,
         )
       ]
 
@@ -128,8 +104,8 @@ module _ (count : ℕ) (l : Logs) (x : Actor) (g : Cursors) (e : Entry) (to : Cu
       let y = actor_of e.choice in
       let other : x ≡ y → ⊥ = λ same. far (sym same) in
       elim leads [
-        | inl by ↦ ap (cursor_of x) by.1 ∙ beside_advanced y x g other
-        | inr by ↦ ap (cursor_of x) by.1 ∙ beside_missing y x g other
+        | inl by ↦ ap (cursor_of x) by.1 ∙ beside passed y x g other
+        | inr by ↦ ap (cursor_of x) by.1 ∙ beside filled y x g other
       ]
 
 -- where a way of other actors leads on, it leads on behind a line of node n, from a state in which the same comes of it

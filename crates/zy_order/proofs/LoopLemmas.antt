@@ -2,6 +2,7 @@
 use Rattle.std.proofs.Common.{◌≡◌, ◌∙◌, ℕ, zero, suc, slice_get, ◌<◌, ◌≤◌, ◌⊎◌, inl, inr, List, [], ◌∷◌, ◌++◌, length, refl, ◌+◌, Bool, ◌&&◌, sym, ap, subst, arith, true, get_or}
 use Rattle.std.proofs.Common.{Option, None, Some, Result, Ok, Err, OnOk, IfOk}
 use Rattle.std.specs.Prelude.{Contains, IsSome, option_to_list, sum}
+use Rattle.std.specs.List.{All}
 use Rattle.std.proofs.lemmas.List.Sums.{sum_by-cons}
 use Rattle.std.proofs.Math.Bool.{false≢true}
 use Rattle.std.proofs.lemmas.Bool.{cases_lt}
@@ -17,9 +18,8 @@ use Rattle.zy_logs.specs.Agrees.{Agrees}
 use Rattle.zy_logs.specs.declared.log_line.LogLine.{LogLine}
 use Rattle.zy_search.specs.Searches.{reached}
 use Rattle.zy_machine.specs.Histories.{History}
-use Rattle.zy_search.specs.Visits.{path_at}
+use Rattle.zy_search.specs.Visits.{path_at, IsSpot, IsShelf}
 use Rattle.zy_search.specs.Choices.{is_considered, considered}
-use Rattle.zy_search.specs.declared.shelf.Shelf.{Shelf}
 use Rattle.zy_search.proofs.ChoiceLemmas.{has_considered}
 use Rattle.zy_search.proofs.MeetLemmas.{is_one}
 use Rattle.zy_search.proofs.SearchLemmas.{named_if}
@@ -27,26 +27,83 @@ use Rattle.zy_order.specs.declared.logs.Logs.{Logs}
 use Rattle.zy_order.specs.declared.cursors.Cursors.{Cursors}
 use Rattle.zy_order.specs.declared.plan.Plan.{Plan}
 use Rattle.zy_order.specs.declared.reached.Reached.{Reached}
+use Rattle.zy_order.specs.declared.search.Search.{Search}
 use Rattle.zy_order.specs.declared.turns.Turns.{Turns}
 use Rattle.zy_order.specs.declared.line.Met.{Met}
 use Rattle.zy_order.specs.declared.line.Met.TheVariants as met
 use Rattle.zy_order.specs.declared.gaps.Gaps.{Gaps}
 use Rattle.zy_order.specs.Gaps.{gaps_of, gap_count}
-use Rattle.zy_order.specs.Ways.{log_of, cursor_of, cursor, cursors_in, gap_at, advanced, with_missing, AreMatched, HasGap}
+use Rattle.zy_order.specs.Ways.{log_of, cursor_of, cursor, at_start, cursors_in, gap_at, advanced, with_missing, AreMatched, HasGap}
 use Rattle.zy_order.specs.Reaches.{all_kinds, cursors_at, IsReached, Extends, IsMet, AreMet, IsTried, AreTried, MayBeAlone, LeadsOn, FollowsAll, FollowsAlone}
 use Rattle.zy_order.specs.Reaches.{IsFollowed, AreFollowedBut, HasEachActor, IsMetBy}
-use Rattle.zy_order.specs.Reaches.{Adds, IsPlan, IsTaken, IsWayOf, IsKnown, entry_by, state_by}
+use Rattle.zy_order.specs.Reaches.{Adds, Follows, IsPlan, IsTaken, IsWayOf, IsKnown, entry_by, state_by}
 use Rattle.zy_order.proofs.WayLemmas.{same_line}
 use Rattle.zy_order.proofs.ReachLemmas.{extends_same, tried_on, followed_on}
 
 -- ---- what is to do
 
--- where only the empty path is reached, it alone is to do
-pub first_to_do : (h : History) (l : Logs) (r : Reached) (todo : List ℕ) → r.visited ≡ [] ∷ [] → todo ≡ 0 ∷ [] → AreFollowedBut h l r todo
-first_to_do h l r todo e f = λ i lt.
-    let one = ap (λ (qs : List (List Choice)). length qs) e in
-    let same : 0 ≡ i = omega (arith, lt, one) in
-    inl (subst (Contains todo) same (subst (λ (t : List ℕ). Contains t 0) (sym f) (Contains-push [] 0)))
+-- A search begins: the empty path alone is reached, and is to be followed.
+module _ (p : Plan) (s : Search) (plan : IsPlan p) (paths : s.reached.visited ≡ [] ∷ []) (cursors : s.reached.cursors.items ≡ at_start ∷ [])
+    (todo : s.reached.todo.items ≡ 0 ∷ []) (spots : s.shelf.spots.items ≡ []) (spare : s.shelf.spare ≡ p.start) (twin : s.twin ≡ p.start) where
+  -- there is one path
+  one : length s.reached.visited ≡ 1
+  one = ap (λ (ps : List (List Choice)). length ps) paths
+
+  -- its place is 0
+  at_first : (i : ℕ) → i < length s.reached.visited → 0 ≡ i
+  at_first i lt = omega (arith, lt, one)
+
+  -- it is empty
+  first_path : path_at s.reached.visited 0 ≡ []
+  first_path = ap (λ (ps : List (List Choice)). path_at ps 0) paths
+
+  -- it leads to the start of the logs
+  first_cursors : cursors_at s.reached 0 ≡ at_start
+  first_cursors = ap (λ (gs : List Cursors). cursors_in gs 0) cursors
+
+  -- so it is a way
+  first_way : IsWayOf p (path_at s.reached.visited 0) (cursors_at s.reached 0)
+  first_way =
+      subst (λ (q : List Choice). IsWayOf p q (cursors_at s.reached 0)) (sym first_path)
+      (subst (λ (g : Cursors). IsWayOf p [] g) (sym first_cursors) refl)
+
+  -- nothing else is to do
+  first_todo : (i : ℕ) → Contains s.reached.todo.items i → i < length s.reached.visited
+  first_todo i at = elim (Contains-push_cases [] 0 i (subst (λ (t : List ℕ). Contains t i) todo at)) [
+    | inl none ↦ absurd (omega (arith, none.1))
+    | inr same ↦ omega (arith, same, one)
+  ]
+
+  -- what is reached is as it should be
+  first_reached : IsReached p s.reached
+  first_reached = record {
+    some = omega (arith, one);
+    few = omega (arith, one);
+    first = first_path;
+    start = first_cursors;
+    ways = λ i lt. subst (λ (j : ℕ). IsWayOf p (path_at s.reached.visited j) (cursors_at s.reached j)) (at_first i lt) first_way;
+    many = ap (λ (gs : List Cursors). length gs) cursors ∙ sym one;
+    there = first_todo;
+  }
+
+  -- the shelf is empty
+  first_shelf : IsShelf p.start s.reached.visited s.shelf
+  first_shelf = record {
+    spots = subst (All (IsSpot p.start s.reached.visited)) (sym spots) (λ k d lt. absurd (omega (arith, lt)));
+    spare = ap (λ (m : History). m.scenario) spare;
+  }
+
+  -- the path is to be followed, and there is no other
+  pub begins : Follows p s
+  begins = record {
+    search = record {
+      under_way = record { plan = plan; reached = first_reached };
+      shelf = first_shelf;
+      twin = ap (λ (m : History). m.scenario) twin;
+    };
+    followed = λ i lt.
+        inl (subst (Contains s.reached.todo.items) (at_first i lt) (subst (λ (t : List ℕ). Contains t 0) (sym todo) (Contains-push [] 0)));
+  }
 
 module _ (p : Plan) (r new : Reached) (o : Option ℕ) (is : IsReached p r) (e : r.todo.items ≡ new.todo.items ++ option_to_list o)
     (paths : new.visited ≡ r.visited) (cursors : new.cursors.items ≡ r.cursors.items) where
@@ -102,18 +159,18 @@ taken p r new (Some at) is followed e some paths cursors =
     )
 
 -- once its path is followed, each but those that are to do then was followed
-pub followed_next : (p : Plan) (r new : Reached) (at : ℕ) (machines : Shelf) → IsTaken p r (Some at) → Adds p r new machines
-    → IsFollowed p.start p.logs new at → AreFollowedBut p.start p.logs new new.todo.items
-followed_next p r new at machines is adds done = λ i there.
-    elim (cases_lt i (length r.visited)) [
+pub followed_next : (p : Plan) (s new : Search) (at : ℕ) → IsTaken p s.reached (Some at) → Adds p s new → IsFollowed p.start p.logs new.reached at
+    → AreFollowedBut p.start p.logs new.reached new.reached.todo.items
+followed_next p s new at is adds done = λ i there.
+    elim (cases_lt i (length s.reached.visited)) [
       | inr past ↦ inl (adds.more i past there)
       | inl below ↦
           elim (is.1 i below) [
-            | inr old ↦ inr (followed_on p.start p.logs r new i adds.extends below old)
+            | inr old ↦ inr (followed_on p.start p.logs s.reached new.reached i adds.extends below old)
             | inl here ↦
-                elim (Contains-push_cases r.todo.items at i here) [
+                elim (Contains-push_cases s.reached.todo.items at i here) [
                   | inl left ↦ inl (adds.still i left)
-                  | inr same ↦ inr (subst (IsFollowed p.start p.logs new) same done)
+                  | inr same ↦ inr (subst (IsFollowed p.start p.logs new.reached) same done)
                 ]
           ]
     ]
@@ -251,3 +308,8 @@ is_followed h l r new at lt e part steps = record { part = λ end. part (subst (
 pub if_ok : {X E : Type 0} (P : Type 0) (Q S : X → Type 0) (r : Result X E) → ((x : X) → P → Q x → S x) → OnOk r P → IfOk r Q → IfOk r S
 if_ok P Q S (Ok x) f p q = f x p q
 if_ok P Q S (Err e) f p q = tt
+
+-- and from what two facts say of it there
+pub on_ok_both : {X E : Type 0} (P Q S : Type 0) (r : Result X E) → (P → Q → S) → OnOk r P → OnOk r Q → OnOk r S
+on_ok_both P Q S (Ok x) f p q = f p q
+on_ok_both P Q S (Err e) f p q = tt

@@ -13,7 +13,7 @@ use Rattle.zy_order.specs.declared.cursors.Cursor.{Cursor}
 use Rattle.zy_order.specs.declared.cursors.Cursors.{Cursors}
 use Rattle.zy_order.specs.Gaps.{gaps_of}
 use Rattle.zy_order.specs.Orders.{entry_at}
-use Rattle.zy_order.specs.Ways.{log_of, cursor_of, gap_at, passed, filled, advanced, with_missing, of_nodes}
+use Rattle.zy_order.specs.Ways.{log_of, cursor_of, gap_at, passed, filled, with_cursor, advanced, with_missing, of_nodes}
 use Rattle.zy_order.specs.Ways.{NeedsNoMore, NeedNoMore, IsNoFurther, AreMatched, HasNext, HasGap, Leads, IsWay}
 
 -- ---- cursors
@@ -49,23 +49,17 @@ need_missing B g = record { of_c = needs_self g.c; of_a = needs_self g.a; of_b =
 pub need_lines : (f g : Cursors) → NeedNoMore f g → f.c.lines + of_nodes f ≡ g.c.lines + of_nodes g
 need_lines f g n = omega (arith, n.of_c.lines, n.of_a.lines, n.of_b.lines)
 
--- behind the next line of an actor they need no more
-need_advanced : (x : Actor) (f g : Cursors) → NeedNoMore f g → NeedNoMore (advanced x f) (advanced x g)
-need_advanced C f g n = record { of_c = needs_passed f.c g.c n.of_c; of_a = n.of_a; of_b = n.of_b }
-need_advanced A f g n = record { of_c = n.of_c; of_a = needs_passed f.a g.a n.of_a; of_b = n.of_b }
-need_advanced B f g n = record { of_c = n.of_c; of_a = n.of_a; of_b = needs_passed f.b g.b n.of_b }
-
--- nor where both have made a missing step more
-need_both : (x : Actor) (f g : Cursors) → NeedNoMore f g → NeedNoMore (with_missing x f) (with_missing x g)
-need_both C f g n = record { of_c = needs_both f.c g.c n.of_c; of_a = n.of_a; of_b = n.of_b }
-need_both A f g n = record { of_c = n.of_c; of_a = needs_both f.a g.a n.of_a; of_b = n.of_b }
-need_both B f g n = record { of_c = n.of_c; of_a = n.of_a; of_b = needs_both f.b g.b n.of_b }
-
 -- of each actor
 need_of : (x : Actor) (f g : Cursors) → NeedNoMore f g → NeedsNoMore (cursor_of x f) (cursor_of x g)
 need_of C f g n = n.of_c
 need_of A f g n = n.of_a
 need_of B f g n = n.of_b
+
+-- they need no more behind a step of an actor, by which its cursor needs no more
+need_with : (x : Actor) (f g : Cursors) (p q : Cursor) → NeedNoMore f g → NeedsNoMore p q → NeedNoMore (with_cursor x p f) (with_cursor x q g)
+need_with C f g p q n own = record { of_c = own; of_a = n.of_a; of_b = n.of_b }
+need_with A f g p q n own = record { of_c = n.of_c; of_a = own; of_b = n.of_b }
+need_with B f g p q n own = record { of_c = n.of_c; of_a = n.of_a; of_b = own }
 
 -- ---- what leads on
 
@@ -98,16 +92,19 @@ pub record LeadsLess (count : ℕ) (l : Logs) (f : Cursors) (e : Entry) (next : 
 pub leads_less : (count : ℕ) (l : Logs) (f g : Cursors) (e : Entry) (next : Cursors) → NeedNoMore f g → Leads count l g e next → LeadsLess count l f e next
 leads_less count l f g e next n leads =
     let x = actor_of e.choice in
+    let p = cursor_of x f in
+    let q = cursor_of x g in
+    let own = need_of x f g n in
     elim leads [
       | inl by ↦ record {
         to = advanced x f;
         leads = inl (next_less l f g e n by.0, refl);
-        need = subst (NeedNoMore (advanced x f)) (sym by.1) (need_advanced x f g n);
+        need = subst (NeedNoMore (advanced x f)) (sym by.1) (need_with x f g (passed p) (passed q) n (needs_passed p q own));
       }
       | inr by ↦ record {
         to = with_missing x f;
         leads = inr (record { named = by.0.named; gap = gap_less x l f g n by.0.gap }, refl);
-        need = subst (NeedNoMore (with_missing x f)) (sym by.1) (need_both x f g n);
+        need = subst (NeedNoMore (with_missing x f)) (sym by.1) (need_with x f g (filled p) (filled q) n (needs_both p q own));
       }
     ]
 

@@ -1,5 +1,5 @@
 -- Orders of lines, and ways along the logs: the choices of one are the other.
-use Rattle.std.proofs.Common.{◌≡◌, ℕ, inl, inr, List, [], ◌∷◌, length, refl, sym, subst, Bool, slice_get, Some, true}
+use Rattle.std.proofs.Common.{◌≡◌, ℕ, inl, inr, List, [], ◌∷◌, length, refl, sym, subst, Bool, true}
 use Rattle.std.specs.Prelude.{if◌then◌else◌}
 use Rattle.zy_isa.specs.declared.node.Actor.{Actor}
 use Rattle.zy_isa.specs.declared.node.Actor.TheVariants.{C, A, B}
@@ -13,12 +13,13 @@ use Rattle.zy_threads.specs.Turns.{is_c, is_a, is_b}
 use Rattle.zy_logs.specs.declared.log_line.LogLine.{LogLine}
 use Rattle.zy_logs.specs.Agrees.{Agrees}
 use Rattle.zy_order.specs.declared.logs.Logs.{Logs}
+use Rattle.zy_order.specs.declared.cursors.Cursor.{Cursor}
 use Rattle.zy_order.specs.declared.cursors.Cursors.{Cursors}
-use Rattle.zy_order.specs.Gaps.{gaps_of, unlogged, IsMissing}
+use Rattle.zy_order.specs.Gaps.{gaps_of, unlogged}
 use Rattle.zy_order.specs.Orders.{Fits, entry_at, lines_of, choices_of}
-use Rattle.zy_order.specs.Ways.{log_of, cursor_of, cursor, advanced, with_missing, IsIn, IsWithin, Leads, IsWay}
-use Rattle.zy_order.proofs.GapLemmas.{Ahead, ahead_none, ahead_line, ahead_missing, ahead_next, at_end, NextIsLine, NextIsMissing}
-use Rattle.zy_order.proofs.WayLemmas.{HaveGaps, on_by}
+use Rattle.zy_order.specs.Ways.{log_of, cursor_of, cursor, passed, filled, with_cursor, advanced, with_missing, IsWithin, Leads, IsWay}
+use Rattle.zy_order.proofs.GapLemmas.{Ahead, ahead_none, ahead_line, ahead_missing, ahead_next, at_end}
+use Rattle.zy_order.proofs.WayLemmas.{HaveGaps, is_in, on_by}
 
 -- ---- one actor among three
 
@@ -35,43 +36,23 @@ lines_cons C line lines = refl
 lines_cons A line lines = refl
 lines_cons B line lines = refl
 
--- cursors within the logs are in that of each actor
-is_in : (x : Actor) (l : Logs) (g : Cursors) → IsWithin l g → IsIn (log_of x l) (gaps_of x l.gaps) (cursor_of x g)
-is_in C l g w = w.of_c
-is_in A l g w = w.of_a
-is_in B l g w = w.of_b
-
 -- lines complete an actor's log from cursors on, up to others
 abbrev pub IsAhead : ℕ → Logs → Cursors → Cursors → Actor → List LogLine → Type 0
 IsAhead count l g to x lines = Ahead count x (log_of x l) (gaps_of x l.gaps) (cursor_of x g) (cursor x to) lines
 
--- the lines of x after a line of y is matched: before it is, they are that line, if it is of x, and these
-with_line : (count : ℕ) (x y : Actor) (l : Logs) (g to : Cursors) (line : LogLine) (lines : List LogLine) → HaveGaps l → IsWithin l g
-    → slice_get (log_of y l) (cursor y g) ≡ Some line → IsAhead count l (advanced y g) to x lines
-    → IsAhead count l g to x (if is_same x y then line ∷ lines else lines)
-with_line count C C l g to line lines many w at a = ahead_line count C l.c.items l.gaps.c.items g.c to.c.lines line lines (many C) w.of_c at a
-with_line count C A l g to line lines many w at a = a
-with_line count C B l g to line lines many w at a = a
-with_line count A C l g to line lines many w at a = a
-with_line count A A l g to line lines many w at a = ahead_line count A l.a.items l.gaps.a.items g.a to.a.lines line lines (many A) w.of_a at a
-with_line count A B l g to line lines many w at a = a
-with_line count B C l g to line lines many w at a = a
-with_line count B A l g to line lines many w at a = a
-with_line count B B l g to line lines many w at a = ahead_line count B l.b.items l.gaps.b.items g.b to.b.lines line lines (many B) w.of_b at a
-
--- so it is of a missing step of y
-with_step : (count : ℕ) (x y : Actor) (l : Logs) (g to : Cursors) (line : LogLine) (lines : List LogLine) → IsMissing count y line
-    → IsAhead count l (with_missing y g) to x lines
-    → IsAhead count l g to x (if is_same x y then line ∷ lines else lines)
-with_step count C C l g to line lines is a = ahead_missing count C l.c.items l.gaps.c.items g.c to.c.lines line lines is a
-with_step count C A l g to line lines is a = a
-with_step count C B l g to line lines is a = a
-with_step count A C l g to line lines is a = a
-with_step count A A l g to line lines is a = ahead_missing count A l.a.items l.gaps.a.items g.a to.a.lines line lines is a
-with_step count A B l g to line lines is a = a
-with_step count B C l g to line lines is a = a
-with_step count B A l g to line lines is a = a
-with_step count B B l g to line lines is a = ahead_missing count B l.b.items l.gaps.b.items g.b to.b.lines line lines is a
+-- the lines of x behind a step of y: before it, they are the step's line, if it is of x, and these
+with_line : (count : ℕ) (x y : Actor) (l : Logs) (g to : Cursors) (k : Cursor) (line : LogLine) (lines : List LogLine)
+    → (Ahead count y (log_of y l) (gaps_of y l.gaps) k (cursor y to) lines → IsAhead count l g to y (line ∷ lines))
+    → IsAhead count l (with_cursor y k g) to x lines → IsAhead count l g to x (if is_same x y then line ∷ lines else lines)
+with_line count C C l g to k line lines own a = own a
+with_line count C A l g to k line lines own a = a
+with_line count C B l g to k line lines own a = a
+with_line count A C l g to k line lines own a = a
+with_line count A A l g to k line lines own a = own a
+with_line count A B l g to k line lines own a = a
+with_line count B C l g to k line lines own a = a
+with_line count B A l g to k line lines own a = a
+with_line count B B l g to k line lines own a = own a
 
 -- ---- from a way to an order
 
@@ -93,6 +74,9 @@ line_of_step : (count : ℕ) (l : Logs) (g next to : Cursors) (e : Entry) → Ha
     → (line : LogLine) × IsLineOf count l g next to e line
 line_of_step count l g next to e many w leads =
     let y = actor_of e.choice in
+    let log = log_of y l in
+    let gaps = gaps_of y l.gaps in
+    let k = cursor_of y g in
     elim leads [
       | inl by ↦ (
         by.0.line,
@@ -100,7 +84,9 @@ line_of_step count l g next to e many w leads =
           choice = by.0.choice;
           agrees = by.0.agrees;
           before = λ x lines a.
-              with_line count x y l g to by.0.line lines many w by.0.next (subst (λ (f : Cursors). IsAhead count l f to x lines) by.1 a);
+              with_line count x y l g to (passed k) by.0.line lines
+              (ahead_line count y log gaps k (cursor y to) by.0.line lines (many y) (is_in y l g w) by.0.next)
+              (subst (λ (f : Cursors). IsAhead count l f to x lines) by.1 a);
         },
       )
       | inr by ↦ (
@@ -109,7 +95,8 @@ line_of_step count l g next to e many w leads =
           choice = refl;
           agrees = (tt, tt);
           before = λ x lines a.
-              with_step count x y l g to (unlogged e.choice) lines (record { is = refl; actor = refl; named = by.0.named })
+              with_line count x y l g to (filled k) (unlogged e.choice) lines
+              (ahead_missing count y log gaps k (cursor y to) (unlogged e.choice) lines (record { is = refl; actor = refl; named = by.0.named }))
               (subst (λ (f : Cursors). IsAhead count l f to x lines) by.1 a);
         },
       )
@@ -155,33 +142,19 @@ pub record LeadsOn (count : ℕ) (l : Logs) (g to : Cursors) (e : Entry) (order 
   pub leads : Leads count l g e next
   pub ahead : (x : Actor) → IsAhead count l next to x (lines_of x order)
 
--- the lines of x behind a line of y that is matched
-behind_line : (count : ℕ) (x y : Actor) (l : Logs) (g to : Cursors) (line : LogLine) (lines : Actor → List LogLine)
-    → ((z : Actor) → IsAhead count l g to z (if is_same z y then line ∷ lines z else lines z)) → IsAhead count l (advanced y g) to y (lines y)
-    → IsAhead count l (advanced y g) to x (lines x)
-behind_line count C C l g to line lines before own = own
-behind_line count C A l g to line lines before own = before C
-behind_line count C B l g to line lines before own = before C
-behind_line count A C l g to line lines before own = before A
-behind_line count A A l g to line lines before own = own
-behind_line count A B l g to line lines before own = before A
-behind_line count B C l g to line lines before own = before B
-behind_line count B A l g to line lines before own = before B
-behind_line count B B l g to line lines before own = own
-
--- those behind a missing step of y
-behind_step : (count : ℕ) (x y : Actor) (l : Logs) (g to : Cursors) (line : LogLine) (lines : Actor → List LogLine)
-    → ((z : Actor) → IsAhead count l g to z (if is_same z y then line ∷ lines z else lines z)) → IsAhead count l (with_missing y g) to y (lines y)
-    → IsAhead count l (with_missing y g) to x (lines x)
-behind_step count C C l g to line lines before own = own
-behind_step count C A l g to line lines before own = before C
-behind_step count C B l g to line lines before own = before C
-behind_step count A C l g to line lines before own = before A
-behind_step count A A l g to line lines before own = own
-behind_step count A B l g to line lines before own = before A
-behind_step count B C l g to line lines before own = before B
-behind_step count B A l g to line lines before own = before B
-behind_step count B B l g to line lines before own = own
+-- the lines of x behind a step of y
+behind_line : (count : ℕ) (x y : Actor) (l : Logs) (g to : Cursors) (k : Cursor) (line : LogLine) (lines : Actor → List LogLine)
+    → ((z : Actor) → IsAhead count l g to z (if is_same z y then line ∷ lines z else lines z))
+    → Ahead count y (log_of y l) (gaps_of y l.gaps) k (cursor y to) (lines y) → IsAhead count l (with_cursor y k g) to x (lines x)
+behind_line count C C l g to k line lines before own = own
+behind_line count C A l g to k line lines before own = before C
+behind_line count C B l g to k line lines before own = before C
+behind_line count A C l g to k line lines before own = before A
+behind_line count A A l g to k line lines before own = own
+behind_line count A B l g to k line lines before own = before A
+behind_line count B C l g to k line lines before own = before B
+behind_line count B A l g to k line lines before own = before B
+behind_line count B B l g to k line lines before own = own
 
 -- y's own lines begin with its line
 own_line : (count : ℕ) (y : Actor) (l : Logs) (g to : Cursors) (line : LogLine) (lines : List LogLine)
@@ -190,22 +163,6 @@ own_line : (count : ℕ) (y : Actor) (l : Logs) (g to : Cursors) (line : LogLine
 own_line count C l g to line lines a = a
 own_line count A l g to line lines a = a
 own_line count B l g to line lines a = a
-
--- its cursor behind the line
-own_advanced : (count : ℕ) (y : Actor) (l : Logs) (g to : Cursors) (line : LogLine) (lines : List LogLine)
-    → NextIsLine count y (log_of y l) (gaps_of y l.gaps) (cursor_of y g) (cursor y to) line lines
-    → IsAhead count l (advanced y g) to y lines
-own_advanced count C l g to line lines next = next.goes_on
-own_advanced count A l g to line lines next = next.goes_on
-own_advanced count B l g to line lines next = next.goes_on
-
--- and behind the step
-own_missing : (count : ℕ) (y : Actor) (l : Logs) (g to : Cursors) (line : LogLine) (lines : List LogLine)
-    → NextIsMissing count y (log_of y l) (gaps_of y l.gaps) (cursor_of y g) (cursor y to) line lines
-    → IsAhead count l (with_missing y g) to y lines
-own_missing count C l g to line lines next = next.goes_on
-own_missing count A l g to line lines next = next.goes_on
-own_missing count B l g to line lines next = next.goes_on
 
 -- a line that agrees with a step and is ahead leads on
 leads_on : (count : ℕ) (l : Logs) (g to : Cursors) (e : Entry) (line : LogLine) (order : List LogLine) → line.choice ≡ e.choice → Agrees line e
@@ -219,13 +176,13 @@ leads_on count l g to e line order same agrees before =
         next = advanced y g;
         leads = inl (record { line = line; next = by.next; choice = same; agrees = agrees }, refl);
         ahead = λ x.
-            behind_line count x y l g to line (λ z. lines_of z order) before (own_advanced count y l g to line (lines_of y order) by);
+            behind_line count x y l g to (passed (cursor_of y g)) line (λ z. lines_of z order) before by.goes_on;
       }
       | inr by ↦ record {
         next = with_missing y g;
         leads = inr (record { named = subst (λ (d : Choice). names_below count d ≡ true) same by.missing.named; gap = by.gap }, refl);
         ahead = λ x.
-            behind_step count x y l g to line (λ z. lines_of z order) before (own_missing count y l g to line (lines_of y order) by);
+            behind_line count x y l g to (filled (cursor_of y g)) line (λ z. lines_of z order) before by.goes_on;
       }
     ]
 

@@ -1,44 +1,65 @@
 -- A path more.
 use Rattle.std.proofs.Common.{◌≡◌, ◌∙◌, ℕ, ◌+◌, ◌<◌, ◌^◌, ◌⊎◌, inl, inr, List, [], ◌∷◌, ◌++◌, length, refl, sym, ap, subst, arith, length-append}
+use Rattle.std.proofs.Common.{slice_get, Some, Result, Ok, Err, OnOk}
 use Rattle.std.specs.Prelude.{Contains}
 use Rattle.std.proofs.lemmas.Bool.{cases_lt}
 use Rattle.std.proofs.lemmas.List.{get_or_append_left, get_or_push}
 use Rattle.std.proofs.lemmas.List.Elements.{Contains-append_left, Contains-push, Contains-push_cases}
+use Rattle.zy_isa.specs.declared.node.Actor.{Actor}
 use Rattle.zy_isa.specs.declared.choice.Choice.{Choice}
+use Rattle.zy_isa.specs.Choices.{actor_of}
 use Rattle.zy_isa.specs.Scenario.{Scenario}
+use Rattle.zy_table.specs.declared.entry.Entry.{Entry}
 use Rattle.zy_table.specs.State.{State}
+use Rattle.zy_table.specs.Play.{step}
+use Rattle.zy_logs.specs.Agrees.{Agrees}
+use Rattle.zy_logs.specs.declared.log_line.LogLine.{LogLine}
 use Rattle.zy_machine.specs.Histories.{History}
 use Rattle.zy_search.specs.Searches.{reached}
 use Rattle.zy_search.specs.Visits.{path_at, Grows, IsHere, IsShelf}
-use Rattle.zy_search.specs.declared.branch.Branch.{Branch}
 use Rattle.zy_search.specs.declared.shelf.Shelf.{Shelf}
 use Rattle.zy_search.proofs.SearchLemmas.{reached_more, grows_push, before_it, it, old_or_new}
-use Rattle.zy_search.proofs.ShelfLemmas.{shelf_grown}
+use Rattle.zy_search.proofs.ShelfLemmas.{here_grown, shelf_grown}
+use Rattle.zy_order.specs.declared.logs.Logs.{Logs}
 use Rattle.zy_order.specs.declared.cursors.Cursors.{Cursors}
 use Rattle.zy_order.specs.declared.plan.Plan.{Plan}
 use Rattle.zy_order.specs.declared.reached.Reached.{Reached}
+use Rattle.zy_order.specs.declared.search.Search.{Search}
+use Rattle.zy_order.specs.declared.search.Position.{Position}
 use Rattle.zy_order.specs.Orders.{entry_at}
-use Rattle.zy_order.specs.Ways.{at_start, cursors_in, NeedNoMore}
-use Rattle.zy_order.specs.Reaches.{cursors_at, entry_by, state_by, IsKnown, IsReached, IsWayOf, Adds, GoesOn}
+use Rattle.zy_order.specs.Ways.{log_of, cursor, at_start, cursors_in, advanced, NeedNoMore, Leads}
+use Rattle.zy_order.specs.Reaches.{cursors_at, entry_by, state_by, IsKnown, IsReached, IsUnderWay, IsSearch, IsWayOf}
+use Rattle.zy_order.specs.Reaches.{IsAt, StandsAt, IsNext, GoesOn, Adds, Reshelves}
 use Rattle.zy_order.proofs.NeedLemmas.{need_self}
 use Rattle.zy_order.proofs.WayLemmas.{way_push}
-use Rattle.zy_order.proofs.ReachLemmas.{extends_on}
+use Rattle.zy_order.proofs.ReachLemmas.{extends_on, extends_same}
 
-module _ (p : Plan) (r new : Reached) (b : Branch) (to : Cursors) (m : History) (is : IsReached p r) (on : GoesOn p r b to m)
-    (paths : new.visited ≡ r.visited ++ (path_at r.visited b.from ++ b.by ∷ []) ∷ []) (cursors : new.cursors.items ≡ r.cursors.items ++ to ∷ [])
-    (todo : new.todo.items ≡ r.todo.items ++ length r.visited ∷ []) (room : length r.visited + 1 < 2 ^ 32) where
+-- A choice leads on from a position, and its path is added to what was reached.
+module _ (s : Search) (here : Position) (c : Choice) (to : Cursors) (on : GoesOn s here c to) (new : Reached)
+    (paths : new.visited ≡ s.reached.visited ++ (path_at s.reached.visited here.at ++ c ∷ []) ∷ [])
+    (cursors : new.cursors.items ≡ s.reached.cursors.items ++ to ∷ []) (todo : new.todo.items ≡ s.reached.todo.items ++ length s.reached.visited ∷ [])
+    (room : length s.reached.visited + 1 < 2 ^ 32) where
+  abbrev p : Plan
+  p = here.plan.now
+
+  abbrev r : Reached
+  r = s.reached
+
+  is : IsReached p r
+  is = on.at.search.under_way.reached
+
   -- the new path
   abbrev path : List Choice
-  path = path_at r.visited b.from ++ b.by ∷ []
+  path = path_at r.visited here.at ++ c ∷ []
 
   -- it goes along the logs
   way_new : IsWayOf p path to
   way_new =
-      way_push p.start.scenario p.logs at_start p.start.state (path_at r.visited b.from) (cursors_at r b.from) b.by to (is.ways b.from on.there) on.leads
+      way_push p.start.scenario p.logs at_start p.start.state (path_at r.visited here.at) (cursors_at r here.at) c to (is.ways here.at on.at.there) on.leads
 
   -- the state where it leads
-  reached_new : reached p.start path ≡ state_by p.start r b.from b.by
-  reached_new = reached_more p.start (path_at r.visited b.from) b.by
+  reached_new : reached p.start path ≡ state_by p.start r here.at c
+  reached_new = reached_more p.start (path_at r.visited here.at) c
 
   -- there is one path more
   longer : length new.visited ≡ length r.visited + 1
@@ -102,7 +123,7 @@ module _ (p : Plan) (r new : Reached) (b : Branch) (to : Cursors) (m : History) 
   grows_new = subst (Grows r.visited) (sym paths) (grows_push r.visited path)
 
   -- where the branch leads is known
-  pub known_new : IsKnown p.start new to (state_by p.start r b.from b.by)
+  pub known_new : IsKnown p.start new to (state_by p.start r here.at c)
   known_new = (
     length r.visited,
     omega (arith, longer),
@@ -110,29 +131,27 @@ module _ (p : Plan) (r new : Reached) (b : Branch) (to : Cursors) (m : History) 
     ap (reached p.start) (new_path (length r.visited) refl) ∙ reached_new,
   )
 
-  -- the machine that has made its choice is there
-  here_new : (place : ℕ) → place ≡ length r.visited → IsHere p.start new.visited place m
-  here_new place e =
+  -- the twin is there
+  twin_there : (place : ℕ) → place ≡ length r.visited → IsHere p.start new.visited place s.twin
+  twin_there place e =
       let n = ap (λ (l : List Choice). length l) (new_path place e) in
       record {
         scenario = on.next.scenario;
         state = on.next.state ∙ (sym reached_new ∙ ap (reached p.start) (sym (new_path place e)));
-        entries = omega (arith, on.next.longer, n, length-append (path_at r.visited b.from) (b.by ∷ []));
+        entries = omega (arith, on.next.longer, n, length-append (path_at r.visited here.at) (c ∷ []));
       }
 
-  -- it is put on the shelf
-  shelf_new : (place : ℕ) (old next : Shelf) → place ≡ length r.visited → IsShelf p.start r.visited old
-      → (IsShelf p.start new.visited old → place < length new.visited → IsHere p.start new.visited place m → IsShelf p.start new.visited next)
-      → IsShelf p.start new.visited next
-  shelf_new place old next e shelf put = put (shelf_grown p.start r.visited new.visited old grows_new shelf) (omega (arith, e, longer)) (here_new place e)
-
-  -- what the path adds
-  pub adds_new : (place : ℕ) (old next : Shelf) → place ≡ length r.visited → IsShelf p.start r.visited old
-      → (IsShelf p.start new.visited old → place < length new.visited → IsHere p.start new.visited place m → IsShelf p.start new.visited next)
-      → Adds p r new next
-  adds_new place old next e shelf put = record {
-    reached = reached_push;
-    shelf = shelf_new place old next e shelf put;
+  -- what the path adds, where the twin is put on the shelf for another machine
+  pub adds_new : (place : ℕ) (shelf : Shelf) (m : History) → place ≡ length r.visited → m.scenario ≡ p.start.scenario
+      → (IsShelf p.start new.visited s.shelf → place < length new.visited → IsHere p.start new.visited place s.twin → IsShelf p.start new.visited shelf)
+      → Adds p s (record { reached = new; shelf = shelf; twin = m })
+  adds_new place shelf m e scenario put = record {
+    search = record {
+      under_way = record { plan = on.at.search.under_way.plan; reached = reached_push };
+      shelf =
+          put (shelf_grown p.start r.visited new.visited s.shelf grows_new on.at.search.shelf) (omega (arith, e, longer)) (twin_there place e);
+      twin = scenario;
+    };
     extends = record { paths = grows_new; cursors = old_cursors };
     more = λ i le lt.
         let same : length r.visited ≡ i = omega (arith, le, lt, longer) in
@@ -142,31 +161,139 @@ module _ (p : Plan) (r new : Reached) (b : Branch) (to : Cursors) (m : History) 
         subst (λ (l : List ℕ). Contains l i) (sym todo) (Contains-append_left r.todo.items (length r.visited ∷ []) i at);
   }
 
--- what comes of a choice from the state of a machine where a path leads
-pub entry_here : (h : History) (r : Reached) (at : ℕ) (m : History) (c : Choice) → IsHere h r.visited at m → entry_at m.scenario m.state c ≡ entry_by h r at c
-entry_here h r at m c here =
-    ap (λ (sc : Scenario). entry_at sc m.state c) here.scenario ∙ ap (λ (s : State). entry_at h.scenario s c) here.state
+-- ---- what a part of a search adds
 
 -- paths are added, and then others
-pub adds_on : (p : Plan) (r s t : Reached) (m n : Shelf) → Adds p r s m → Adds p s t n → Adds p r t n
-adds_on p r s t m n x y = record {
-  reached = y.reached;
-  shelf = y.shelf;
-  extends = extends_on r s t x.extends y.extends;
+pub adds_on : (p : Plan) (r s t : Search) → Adds p r s → Adds p s t → Adds p r t
+adds_on p r s t x y = record {
+  search = y.search;
+  extends = extends_on r.reached s.reached t.reached x.extends y.extends;
   more = λ i le lt.
-      elim (cases_lt i (length s.visited)) [
+      elim (cases_lt i (length s.reached.visited)) [
         | inl below ↦ y.still i (x.more i le below)
         | inr past ↦ y.more i past lt
       ];
   still = λ i at. y.still i (x.still i at);
 }
 
+-- and more where a call succeeds
+pub adds_then : {X E : Type 0} (p : Plan) (r s t : Search) (result : Result X E) → Adds p r s → OnOk result (Adds p s t) → OnOk result (Adds p r t)
+adds_then p r s t (Ok x) first more = adds_on p r s t first more
+adds_then p r s t (Err e) first more = tt
+
 -- none is
-pub adds_none : (p : Plan) (r : Reached) (m : Shelf) → IsReached p r → IsShelf p.start r.visited m → Adds p r r m
-adds_none p r m is shelf = record {
-  reached = is;
-  shelf = shelf;
-  extends = record { paths = record { longer = omega arith; same = λ i lt. refl }; cursors = λ i lt. refl };
-  more = λ i le lt. absurd (omega (arith, le, lt));
-  still = λ i at. at;
+pub adds_none : (p : Plan) (s t : Search) → IsSearch p t → t.reached ≡ s.reached → Adds p s t
+adds_none p s t is same = record {
+  search = is;
+  extends = extends_same s.reached t.reached (ap (λ (r : Reached). r.visited) same) (ap (λ (r : Reached). r.cursors.items) same);
+  more = λ i le lt. absurd (omega (arith, le, lt, ap (λ (r : Reached). length r.visited) same));
+  still = λ i at. subst (λ (r : Reached). Contains r.todo.items i) (sym same) at;
 }
+
+-- a search that adds paths still goes on from the path at a place
+pub stands_on : (p : Plan) (s t : Search) (at : ℕ) (m : History) → Adds p s t → StandsAt p s at m → StandsAt p t at m
+stands_on p s t at m adds is = record {
+  search = adds.search;
+  there = omega (arith, is.there, adds.extends.paths.longer);
+  machine = here_grown p.start s.reached.visited t.reached.visited at m adds.extends.paths is.there is.machine;
+  room = is.room;
+}
+
+-- ---- another twin
+
+-- a search may have another machine of the scenario for its twin
+pub search_twin : (p : Plan) (s : Search) (m : History) → IsSearch p s → m.scenario ≡ p.start.scenario → IsSearch p (record s { twin = m })
+search_twin p s m is scenario = record { under_way = is.under_way; shelf = is.shelf; twin = scenario }
+
+-- it adds nothing
+pub adds_twin : (p : Plan) (s : Search) (m : History) → IsSearch p s → m.scenario ≡ p.start.scenario → Adds p s (record s { twin = m })
+adds_twin p s m is scenario = adds_none p s (record s { twin = m }) (search_twin p s m is scenario) refl
+
+-- what comes of a choice from the state of a machine where a path leads
+pub entry_here : (h : History) (r : Reached) (at : ℕ) (m : History) (c : Choice) → IsHere h r.visited at m → entry_at m.scenario m.state c ≡ entry_by h r at c
+entry_here h r at m c here =
+    ap (λ (sc : Scenario). entry_at sc m.state c) here.scenario ∙ ap (λ (s : State). entry_at h.scenario s c) here.state
+
+-- where the twin has made a choice that leads on, the search goes on by it
+pub goes_on : (s : Search) (here : Position) (c : Choice) (to : Cursors) (twin : History) → IsAt here s → twin.scenario ≡ here.machine.now.scenario
+    → twin.state ≡ (step here.machine.now.scenario c here.machine.now.state).after → length here.machine.now.entries < length twin.entries
+    → Leads (length here.plan.now.start.scenario.programs) here.plan.now.logs (cursors_at s.reached here.at)
+    (entry_by here.plan.now.start s.reached here.at c) to
+    → GoesOn (record s { twin = twin }) here c to
+goes_on s here c to twin is scenario state longer leads =
+    let sc = here.plan.now.start.scenario in
+    let m = here.machine.now in
+    let same : twin.scenario ≡ sc = scenario ∙ is.machine.scenario in
+    let first : (step m.scenario c m.state).after ≡ (step sc c m.state).after = ap (λ (x : Scenario). (step x c m.state).after) is.machine.scenario in
+    record {
+      at = record { search = search_twin here.plan.now s twin is.search same; there = is.there; machine = is.machine; room = is.room };
+      leads = leads;
+      next = record {
+        scenario = same;
+        state = state ∙ (first ∙ ap (λ (x : State). (step sc c x).after) is.machine.state);
+        longer = omega (arith, is.machine.entries, longer);
+      };
+    }
+
+-- the next line of an actor leads on where it agrees with what comes of its choice
+pub line_leads : (count : ℕ) (l : Logs) (g : Cursors) (e : Entry) (x : Actor) (line : LogLine) (to : Cursors)
+    → slice_get (log_of x l) (cursor x g) ≡ Some line → actor_of line.choice ≡ x → line.choice ≡ e.choice → Agrees line e → to ≡ advanced x g
+    → Leads count l g e to
+line_leads count l g e x line to next own choice agrees there =
+    let same : x ≡ actor_of e.choice = sym own ∙ ap actor_of choice in
+    inl (
+      record {
+        line = line;
+        next = subst (λ (y : Actor). slice_get (log_of y l) (cursor y g) ≡ Some line) same next;
+        choice = choice;
+        agrees = agrees;
+      },
+      there ∙ ap (λ (y : Actor). advanced y g) same,
+    )
+
+-- ---- another shelf
+
+-- a search may have another shelf
+pub search_taken : (p : Plan) (s : Search) (shelf : Shelf) → IsSearch p s → IsShelf p.start s.reached.visited shelf → IsSearch p (record s { shelf = shelf })
+search_taken p s shelf is there = record { under_way = is.under_way; shelf = there; twin = is.twin }
+
+-- it adds nothing
+pub adds_taken : (p : Plan) (s : Search) (shelf : Shelf) → IsSearch p s → IsShelf p.start s.reached.visited shelf → Adds p s (record s { shelf = shelf })
+adds_taken p s shelf is there = adds_none p s (record s { shelf = shelf }) (search_taken p s shelf is there) refl
+
+-- a shelf is changed, and then again
+pub reshelves_on : (p : Plan) (r s t : Search) → Reshelves p r s → Reshelves p s t → Reshelves p r t
+reshelves_on p r s t x y = record { reached = y.reached ∙ x.reached; twin = y.twin ∙ x.twin; shelf = y.shelf }
+
+-- a search with another shelf is one
+pub search_shelf : (p : Plan) (s t : Search) → Reshelves p s t → IsSearch p s → IsSearch p t
+search_shelf p s t new is = record {
+  under_way = subst (IsUnderWay p) (sym new.reached) is.under_way;
+  shelf = new.shelf;
+  twin = ap (λ (m : History). m.scenario) new.twin ∙ is.twin;
+}
+
+-- it adds nothing
+pub adds_shelf : (p : Plan) (s t : Search) → Reshelves p s t → IsSearch p s → Adds p s t
+adds_shelf p s t new is = adds_none p s t (search_shelf p s t new is) new.reached
+
+-- it goes on as before
+pub goes_on_shelf : (s t : Search) (here : Position) (c : Choice) (to : Cursors) → Reshelves here.plan.now s t → GoesOn s here c to → GoesOn t here c to
+goes_on_shelf s t here c to new on =
+    let p = here.plan.now in
+    let h = p.start in
+    record {
+      at = stands_on p s t here.at here.machine.now (adds_shelf p s t new on.at.search) on.at;
+      leads =
+          subst (λ (r : Reached). Leads (length h.scenario.programs) p.logs (cursors_at r here.at) (entry_by h r here.at c) to) (sym new.reached) on.leads;
+      next =
+          subst (λ (r : Reached). IsNext h r here.at c t.twin) (sym new.reached)
+          (subst (λ (m : History). IsNext h s.reached here.at c m) (sym new.twin) on.next);
+    }
+
+-- what was known of its twin is known
+pub known_shelf : (p : Plan) (s t : Search) (to : Cursors) → Reshelves p s t → IsKnown p.start t.reached to t.twin.state
+    → IsKnown p.start s.reached to s.twin.state
+known_shelf p s t to new known =
+    subst (λ (r : Reached). IsKnown p.start r to s.twin.state) new.reached
+    (subst (λ (m : History). IsKnown p.start t.reached to m.state) new.twin known)

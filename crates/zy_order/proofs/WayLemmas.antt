@@ -18,8 +18,8 @@ use Rattle.zy_order.specs.declared.cursors.Cursor.{Cursor}
 use Rattle.zy_order.specs.declared.cursors.Cursors.{Cursors}
 use Rattle.zy_order.specs.Gaps.{gaps_of}
 use Rattle.zy_order.specs.Orders.{entry_at}
-use Rattle.zy_order.specs.Ways.{log_of, cursor, at_start, gap_at, passed, filled, advanced, with_missing, step_count}
-use Rattle.zy_order.specs.Ways.{AreMatched, IsIn, IsWithin, HasNext, HasGap, Leads, IsWay, AreLinesOf}
+use Rattle.zy_order.specs.Ways.{log_of, cursor_of, cursor, at_start, gap_at, passed, filled, with_cursor, step_count}
+use Rattle.zy_order.specs.Ways.{AreMatched, IsIn, IsWithin, HasNext, Leads, IsWay, AreLinesOf}
 
 -- ---- in one log
 
@@ -74,43 +74,33 @@ pub record IsOn (l : Logs) (g to : Cursors) : Type 0 where
   pub within : IsWithin l to
   pub more : possible l g < possible l to
 
--- the next line of an actor
-on_advanced : (x : Actor) (l : Logs) (g : Cursors) → HaveGaps l → IsWithin l g → cursor x g < length (log_of x l) → IsOn l g (advanced x g)
-on_advanced C l g many w lt = record {
-  within = record { of_c = in_passed l.c.items l.gaps.c.items g.c (many C) w.of_c lt; of_a = w.of_a; of_b = w.of_b };
-  more = omega (arith, spent_passed l.c.items l.gaps.c.items g.c (many C) w.of_c);
-}
-on_advanced A l g many w lt = record {
-  within = record { of_c = w.of_c; of_a = in_passed l.a.items l.gaps.a.items g.a (many A) w.of_a lt; of_b = w.of_b };
-  more = omega (arith, spent_passed l.a.items l.gaps.a.items g.a (many A) w.of_a);
-}
-on_advanced B l g many w lt = record {
-  within = record { of_c = w.of_c; of_a = w.of_a; of_b = in_passed l.b.items l.gaps.b.items g.b (many B) w.of_b lt };
-  more = omega (arith, spent_passed l.b.items l.gaps.b.items g.b (many B) w.of_b);
-}
+-- cursors within the logs are in that of each actor
+pub is_in : (x : Actor) (l : Logs) (g : Cursors) → IsWithin l g → IsIn (log_of x l) (gaps_of x l.gaps) (cursor_of x g)
+is_in C l g w = w.of_c
+is_in A l g w = w.of_a
+is_in B l g w = w.of_b
 
--- a missing step of an actor
-on_missing : (x : Actor) (l : Logs) (g : Cursors) → HaveGaps l → IsWithin l g → HasGap x l g → IsOn l g (with_missing x g)
-on_missing C l g many w lt = record {
-  within = record { of_c = in_filled l.c.items l.gaps.c.items g.c (many C) w.of_c lt; of_a = w.of_a; of_b = w.of_b };
-  more = omega (arith, spent_filled l.c.items l.gaps.c.items g.c (many C) w.of_c);
-}
-on_missing A l g many w lt = record {
-  within = record { of_c = w.of_c; of_a = in_filled l.a.items l.gaps.a.items g.a (many A) w.of_a lt; of_b = w.of_b };
-  more = omega (arith, spent_filled l.a.items l.gaps.a.items g.a (many A) w.of_a);
-}
-on_missing B l g many w lt = record {
-  within = record { of_c = w.of_c; of_a = w.of_a; of_b = in_filled l.b.items l.gaps.b.items g.b (many B) w.of_b lt };
-  more = omega (arith, spent_filled l.b.items l.gaps.b.items g.b (many B) w.of_b);
-}
+-- where an actor's cursor goes on within its log, by one step more
+on_moved : (x : Actor) (l : Logs) (g : Cursors) (k : Cursor) → IsWithin l g → IsIn (log_of x l) (gaps_of x l.gaps) k
+    → spent (gaps_of x l.gaps) (cursor_of x g) < spent (gaps_of x l.gaps) k → IsOn l g (with_cursor x k g)
+on_moved C l g k w is more = record { within = record { of_c = is; of_a = w.of_a; of_b = w.of_b }; more = omega (arith, more) }
+on_moved A l g k w is more = record { within = record { of_c = w.of_c; of_a = is; of_b = w.of_b }; more = omega (arith, more) }
+on_moved B l g k w is more = record { within = record { of_c = w.of_c; of_a = w.of_a; of_b = is }; more = omega (arith, more) }
 
--- so does each step
+-- so it does by each step
 pub on_by : (count : ℕ) (l : Logs) (g : Cursors) (e : Entry) (to : Cursors) → HaveGaps l → IsWithin l g → Leads count l g e to → IsOn l g to
 on_by count l g e to many w leads =
     let x = actor_of e.choice in
+    let log = log_of x l in
+    let gaps = gaps_of x l.gaps in
+    let k = cursor_of x g in
+    let is = is_in x l g w in
     elim leads [
-      | inl by ↦ subst (IsOn l g) (sym by.1) (on_advanced x l g many w (slice_get_within (log_of x l) (cursor x g) by.0.line by.0.next))
-      | inr by ↦ subst (IsOn l g) (sym by.1) (on_missing x l g many w by.0.gap)
+      | inl by ↦
+          let lt = slice_get_within log k.lines by.0.line by.0.next in
+          subst (IsOn l g) (sym by.1) (on_moved x l g (passed k) w (in_passed log gaps k (many x) is lt) (spent_passed log gaps k (many x) is))
+      | inr by ↦
+          subst (IsOn l g) (sym by.1) (on_moved x l g (filled k) w (in_filled log gaps k (many x) is by.0.gap) (spent_filled log gaps k (many x) is))
     ]
 
 -- at the start the cursors are within the logs

@@ -19,13 +19,13 @@ use Rattle.zy_logs.specs.declared.log_line.LogLine.{LogLine}
 use Rattle.zy_search.specs.declared.kinds.ChoiceKinds.{ChoiceKinds}
 use Rattle.zy_search.specs.Choices.{considered}
 use Rattle.zy_search.specs.Searches.{reached}
-use Rattle.zy_search.specs.Visits.{path_at, length_at, Grows, IsShelf}
-use Rattle.zy_search.specs.declared.shelf.Shelf.{Shelf}
-use Rattle.zy_search.specs.declared.branch.Branch.{Branch}
+use Rattle.zy_search.specs.Visits.{path_at, length_at, Grows, IsHere, IsShelf}
 use Rattle.zy_order.specs.declared.logs.Logs.{Logs}
 use Rattle.zy_order.specs.declared.cursors.Cursors.{Cursors}
 use Rattle.zy_order.specs.declared.plan.Plan.{Plan}
 use Rattle.zy_order.specs.declared.reached.Reached.{Reached}
+use Rattle.zy_order.specs.declared.search.Search.{Search}
+use Rattle.zy_order.specs.declared.search.Position.{Position}
 use Rattle.zy_order.specs.declared.turns.Turns.{Turns}
 use Rattle.zy_order.specs.declared.answer.OrderAnswer.{OrderAnswer}
 use Rattle.zy_order.specs.declared.answer.OrderAnswer.TheVariants as answer
@@ -92,6 +92,12 @@ pub record IsReached (p : Plan) (r : Reached) : Type 0 where
 pub record IsUnderWay (p : Plan) (r : Reached) : Type 0 where
   pub plan : IsPlan p
   pub reached : IsReached p r
+
+-- a search is under way, with machines of the plan's scenario: each of its shelf is where the path leads that it names
+pub record IsSearch (p : Plan) (s : Search) : Type 0 where
+  pub under_way : IsUnderWay p s.reached
+  pub shelf : IsShelf p.start s.reached.visited s.shelf
+  pub twin : s.twin.scenario ≡ p.start.scenario
 
 -- no path leads further than that at a place
 abbrev pub IsFurthestPath : Reached → ℕ → Type 0
@@ -196,11 +202,34 @@ abbrev pub IsTaken : Plan → Reached → Option ℕ → Type 0
 IsTaken p r None = (i : ℕ) → i < length r.visited → IsFollowed p.start p.logs r i
 IsTaken p r (Some at) = (at < length r.visited) × AreFollowedBut p.start p.logs r (r.todo.items ++ at ∷ [])
 
+-- a search follows its paths: each but those that are to do was followed
+pub record Follows (p : Plan) (s : Search) : Type 0 where
+  pub search : IsSearch p s
+  pub followed : AreFollowedBut p.start p.logs s.reached s.reached.todo.items
+
+-- the path at a place can be followed: it does not match all lines, and the machine is one of the plan's scenario
+pub record IsDue (p : Plan) (s : Search) (at : ℕ) (m : History) : Type 0 where
+  pub search : IsSearch p s
+  pub there : at < length s.reached.visited
+  pub part : AreMatched p.logs (cursors_at s.reached at) → ⊥
+  pub machine : m.scenario ≡ p.start.scenario
+
 -- each actor has a turn
 abbrev pub HasEachActor : Turns → Type 0
 HasEachActor turns = (x : Actor) → (x ≡ turns.first) ⊎ (x ≡ turns.second) ⊎ (x ≡ turns.third)
 
 -- ---- what a part of a search adds
+
+-- a search goes on from a path: a machine is where it leads, with room in its history for one choice more
+pub record StandsAt (p : Plan) (s : Search) (at : ℕ) (m : History) : Type 0 where
+  pub search : IsSearch p s
+  pub there : at < length s.reached.visited
+  pub machine : IsHere p.start s.reached.visited at m
+  pub room : length m.entries < max_choices
+
+-- a search goes on from a position
+abbrev pub IsAt : Position → Search → Type 0
+IsAt here s = StandsAt here.plan.now s here.at here.machine.now
 
 -- a machine that has made one choice more than the path at a place
 pub record IsNext (h : History) (r : Reached) (at : ℕ) (c : Choice) (m : History) : Type 0 where
@@ -214,19 +243,25 @@ IsMetBy h r i x line met.Unfit = Agrees line (entry_by h r i line.choice) → �
 IsMetBy h r i x line met.Known = LeadsOn h r i x line
 IsMetBy h r i x line met.Spent = Unit {0}
 
--- a branch goes on from a path to cursors, and a machine has made its choice
-pub record GoesOn (p : Plan) (r : Reached) (b : Branch) (to : Cursors) (m : History) : Type 0 where
-  pub there : b.from < length r.visited
-  pub leads : Leads (length p.start.scenario.programs) p.logs (cursors_at r b.from) (entry_by p.start r b.from b.by) to
-  pub next : IsNext p.start r b.from b.by m
+-- a choice leads on from a position to cursors, and the twin has made it
+pub record GoesOn (s : Search) (here : Position) (c : Choice) (to : Cursors) : Type 0 where
+  pub at : IsAt here s
+  pub leads : Leads (length here.plan.now.start.scenario.programs) here.plan.now.logs (cursors_at s.reached here.at)
+      (entry_by here.plan.now.start s.reached here.at c) to
+  pub next : IsNext here.plan.now.start s.reached here.at c s.twin
 
--- what was reached went from old to new: each new path is to be followed, and each that was to be still is
-pub record Adds (p : Plan) (old new : Reached) (machines : Shelf) : Type 0 where
-  pub reached : IsReached p new
-  pub shelf : IsShelf p.start new.visited machines
-  pub extends : Extends old new
-  pub more : (i : ℕ) → length old.visited ≤ i → i < length new.visited → Contains new.todo.items i
-  pub still : (i : ℕ) → Contains old.todo.items i → Contains new.todo.items i
+-- a search went from old to new: each new path is to be followed, and each that was to be still is
+pub record Adds (p : Plan) (old new : Search) : Type 0 where
+  pub search : IsSearch p new
+  pub extends : Extends old.reached new.reached
+  pub more : (i : ℕ) → length old.reached.visited ≤ i → i < length new.reached.visited → Contains new.reached.todo.items i
+  pub still : (i : ℕ) → Contains old.reached.todo.items i → Contains new.reached.todo.items i
+
+-- a search went from old to new, and nothing but its shelf is another
+pub record Reshelves (p : Plan) (old new : Search) : Type 0 where
+  pub reached : new.reached ≡ old.reached
+  pub twin : new.twin ≡ old.twin
+  pub shelf : IsShelf p.start new.reached.visited new.shelf
 
 -- ---- what comes of it
 

@@ -57,17 +57,23 @@ filled cursor = record { lines = cursor.lines; missing = cursor.missing + 1 }
 abbrev pub cursors_in : List Cursors → ℕ → Cursors
 cursors_in list at = slice_index_or list at at_start
 
+-- the cursors where an actor has this one
+abbrev pub with_cursor : Actor → Cursor → Cursors → Cursors
+with_cursor C cursor cursors = record { c = cursor; a = cursors.a; b = cursors.b }
+with_cursor A cursor cursors = record { c = cursors.c; a = cursor; b = cursors.b }
+with_cursor B cursor cursors = record { c = cursors.c; a = cursors.a; b = cursor }
+
+-- the cursors where a step has moved that of an actor
+abbrev pub moved : (Cursor → Cursor) → Actor → Cursors → Cursors
+moved f x cursors = with_cursor x (f (cursor_of x cursors)) cursors
+
 -- the cursors where one line more of an actor is matched
 abbrev pub advanced : Actor → Cursors → Cursors
-advanced C cursors = record { c = passed cursors.c; a = cursors.a; b = cursors.b }
-advanced A cursors = record { c = cursors.c; a = passed cursors.a; b = cursors.b }
-advanced B cursors = record { c = cursors.c; a = cursors.a; b = passed cursors.b }
+advanced x cursors = moved passed x cursors
 
 -- the cursors where an actor has made one missing step more
 abbrev pub with_missing : Actor → Cursors → Cursors
-with_missing C cursors = record { c = filled cursors.c; a = cursors.a; b = cursors.b }
-with_missing A cursors = record { c = cursors.c; a = filled cursors.a; b = cursors.b }
-with_missing B cursors = record { c = cursors.c; a = cursors.a; b = filled cursors.b }
+with_missing x cursors = moved filled x cursors
 
 -- how many lines of A and B together are matched
 abbrev pub of_nodes : Cursors → ℕ

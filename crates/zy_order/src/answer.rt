@@ -2,8 +2,8 @@
 
 use zy_isa::Choice;
 
-/// What came of a search. An order of prefixes of the logs has a prefix of each actor's lines, in order, with steps that its
-/// log lacks in the gaps, and each of its lines agrees with what comes of its choice.
+/// What came of a search. An order of prefixes of the logs has a prefix of each actor's lines, in order, with steps
+/// that its log lacks in the gaps, and each of its lines agrees with what comes of its choice.
 #[derive(Drop)]
 pub enum OrderAnswer {
     /// The choices of an order: of all lines, and of missing steps.
@@ -28,8 +28,8 @@ pub struct Taken {
     pub b: usize,
 }
 
-/// An answer, and for a person how many states were reached and how many lines its order takes: nothing is promised of the
-/// numbers.
+/// An answer, and for a person how many states were reached and how many lines its order takes: nothing is promised of
+/// the numbers.
 #[derive(Drop)]
 pub struct OrderReport {
     /// The answer.

@@ -86,28 +86,24 @@ impl Cursors {
         }
     }
 
+    /// The cursors where an actor has this one.
+    fn with(self, actor: Actor, cursor: Cursor) -> Cursors
+        ensures { result ≡ spec.with_cursor actor cursor self }
+    {
+        let Cursors { c, a, b } = self;
+        match actor {
+            Actor::C => Cursors { c: cursor, a, b },
+            Actor::A => Cursors { c, a: cursor, b },
+            Actor::B => Cursors { c, a, b: cursor },
+        }
+    }
+
     /// The cursors where one line more of an actor is matched.
     pub(crate) fn advanced(self, actor: Actor) -> Cursors
         requires { spec.cursor actor self < 65535 }
         ensures { result ≡ spec.advanced actor self }
     {
-        match actor {
-            Actor::C => Cursors {
-                c: self.c.passed(),
-                a: self.a,
-                b: self.b,
-            },
-            Actor::A => Cursors {
-                c: self.c,
-                a: self.a.passed(),
-                b: self.b,
-            },
-            Actor::B => Cursors {
-                c: self.c,
-                a: self.a,
-                b: self.b.passed(),
-            },
-        }
+        self.with(actor, self.of(actor).passed())
     }
 
     /// The cursors where an actor has made one step more that its log lacks.
@@ -115,23 +111,7 @@ impl Cursors {
         requires { (spec.cursor_of actor self).missing < 65535 }
         ensures { result ≡ spec.with_missing actor self }
     {
-        match actor {
-            Actor::C => Cursors {
-                c: self.c.filled(),
-                a: self.a,
-                b: self.b,
-            },
-            Actor::A => Cursors {
-                c: self.c,
-                a: self.a.filled(),
-                b: self.b,
-            },
-            Actor::B => Cursors {
-                c: self.c,
-                a: self.a,
-                b: self.b.filled(),
-            },
-        }
+        self.with(actor, self.of(actor).filled())
     }
 
     /// Whether these cursors are the same as those. Where it answers yes they are.

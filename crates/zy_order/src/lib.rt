@@ -15,6 +15,7 @@ mod note;
 pub mod order;
 mod plan;
 mod reached;
+mod search;
 mod turns;
 mod walk;
 

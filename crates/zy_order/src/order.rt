@@ -9,12 +9,12 @@ ghost use Rattle.zy_order.specs.Reaches.{cursors_at, IsFurthestPath, IsPlan, IsU
 
 use crate::answer::{OrderAnswer, OrderReport, Taken};
 use crate::cursors::Cursors;
-use crate::follow::{Followed, follow_all};
+use crate::follow::Followed;
 use crate::gaps::Gaps;
 use crate::logs::Logs;
-use crate::note::digest_of;
 use crate::plan::Plan;
 use crate::reached::Reached;
+use crate::search::Search;
 use std::alloc::{AllocError, Global};
 use zy_isa::Choice;
 use zy_logs::LogLine;
@@ -106,10 +106,9 @@ fn report<W: Watch>(plan: &Plan, watch: &mut W) -> Result<OrderReport, Fault>
     requires { IsPlan plan.now }
     ensures { IfOk result (λ r. AnswersFor plan.now r.answer) }
 {
-    let first = digest_of(Cursors::at_start(), &plan.start);
-    let mut reached = Reached::new(plan.alloc, first)?;
-    let followed = follow_all(plan, &mut reached, watch)?;
-    report_by(plan, &reached, followed)
+    let mut search = Search::new(plan)?;
+    let followed = search.follow_all(plan, watch)?;
+    report_by(plan, &search.reached, followed)
 }
 
 /// All kinds of choices: a step of any kind may be missing.
@@ -161,10 +160,11 @@ fn plan_from(
     })
 }
 
-/// Looks for an order of the lines of three logs, one for each actor, and of steps that are missing from the logs, in which
-/// each line agrees with what comes of its choice, where the choices are made from a machine's state. The logs are mixed in
-/// any way: only the order of each actor's own lines counts. The gaps say how many steps may be missing, and where. The
-/// search goes depth first, and gives up where it would reach more states than `most`. The watch learns how far it is.
+/// Looks for an order of the lines of three logs, one for each actor, and of steps that are missing from the logs, in
+/// which each line agrees with what comes of its choice, where the choices are made from a machine's state. The logs
+/// are mixed in any way: only the order of each actor's own lines counts. The gaps say how many steps may be missing,
+/// and where. The search goes depth first, and gives up where it would reach more states than `most`. The watch learns
+/// how far it is.
 pub fn order<W: Watch>(
     alloc: Global,
     start: &Machine,

@@ -1,0 +1,10 @@
+-- The empty path alone is reached, and is to be followed.
+use Rattle.zy_order.proofs.LoopLemmas.{begins}
+use Rattle.zy_order.proofs.search.Search.new.Goals as goal
+
+pub returns : goal.returns
+returns c =
+    let r = c.in_ok-reached.ensures in
+    let shelf = c.in_ok-shelf.ensures in
+    begins c.args.plan.now (record { reached = c.in_ok-reached.reached; shelf = c.in_ok-shelf.shelf; twin = c.in_ok-twin.twin }) c.requires r.paths r.cursors
+    r.todo shelf.spots shelf.spare c.in_ok-twin.ensures

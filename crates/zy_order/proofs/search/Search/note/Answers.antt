@@ -1,0 +1,40 @@
+-- A path that leads to the twin's state is known, or the new one is kept.
+use Rattle.std.proofs.Common.{sym, subst}
+use Rattle.zy_table.specs.State.{State}
+use Rattle.zy_order.specs.declared.reached.Reached.{Reached}
+use Rattle.zy_order.specs.Reaches.{state_by, IsKnown}
+use Rattle.zy_order.proofs.PushLemmas.{adds_on, adds_shelf, goes_on_shelf}
+use Rattle.zy_order.proofs.search.Search.note.Goals as goal
+
+pub returns-in_default-clause-adds : goal.returns-in_default-clause-adds
+returns-in_default-clause-adds c =
+    adds_shelf c.args.here.plan.now c.args.self.now c.free_under.new.self c.in_ok-digest.ensures.keeps c.requires.at.search
+
+pub returns-in_default-clause-known : goal.returns-in_default-clause-known
+returns-in_default-clause-known c = λ _.
+    let h = c.args.here.plan.now.start in
+    let old = c.args.self.now.reached in
+    let to = c.args.cursors in
+    subst (λ (r : Reached). IsKnown h r to (state_by h old c.args.here.at c.args.by)) (sym c.in_ok-digest.ensures.keeps.reached)
+    (subst (λ (s : State). IsKnown h old to s) c.requires.next.state (c.in_ok-digest.ensures.known c.in_default.is))
+
+pub returns-then-here-len-clause-adds : goal.returns-then-here-len-clause-adds
+returns-then-here-len-clause-adds c =
+    adds_shelf c.args.here.plan.now c.args.self.now c.free_under.new.self c.in_ok-digest.ensures.keeps c.requires.at.search
+
+pub keep-requires-clause-leads : goal.keep-requires-clause-leads
+keep-requires-clause-leads c =
+    goes_on_shelf c.args.self.now c.free_under.new.self c.args.here c.args.by c.args.cursors c.in_ok-digest.ensures.keeps c.requires
+
+pub returns-clause-adds : goal.returns-clause-adds
+returns-clause-adds c =
+    let p = c.args.here.plan.now in
+    let s = c.args.self.now in
+    let t = c.free_under.new.self in
+    adds_on p s t c.keep.new.self (adds_shelf p s t c.in_ok-digest.ensures.keeps c.requires.at.search) c.in_ok-keep.ensures.adds
+
+pub returns-clause-known : goal.returns-clause-known
+returns-clause-known c = λ _.
+    let h = c.args.here.plan.now.start in
+    subst (λ (r : Reached). IsKnown h c.keep.new.self.reached c.args.cursors (state_by h r c.args.here.at c.args.by))
+    c.in_ok-digest.ensures.keeps.reached c.in_ok-keep.ensures.known

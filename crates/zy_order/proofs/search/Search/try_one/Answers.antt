@@ -1,0 +1,57 @@
+-- The choice changes nothing, or where it leads is known; or it may not be that of a missing step.
+use Rattle.std.proofs.Common.{◌≡◌, ◌∙◌, Bool, true, ap, subst, inr}
+use Rattle.zy_isa.specs.declared.node.Actor.{Actor}
+use Rattle.zy_isa.specs.Choices.{actor_of}
+use Rattle.zy_order.specs.Ways.{with_missing, HasGap}
+use Rattle.zy_order.specs.Reaches.{state_by, IsKnown, IsTried, Adds}
+use Rattle.zy_order.proofs.LoopLemmas.{if_ok, missing_few, tried_by}
+use Rattle.zy_order.proofs.PushLemmas.{adds_then, adds_twin, goes_on}
+use Rattle.zy_order.proofs.search.Search.try_one.Goals as goal
+
+pub with_missing-requires : goal.with_missing-requires
+with_missing-requires c =
+    missing_few c.args.here.plan.now c.actor-actor.result c.cursors_at-cursors.result c.requires.at.search.under_way.plan
+    (c.has_gap.ensures.0 c.if-not-has_gap.false)
+
+pub returns-then-is_alike-clause-adds : goal.returns-then-is_alike-clause-adds
+returns-then-is_alike-clause-adds c =
+    let at = c.requires.at in
+    adds_twin c.args.here.plan.now c.args.self.now c.attempt.new.twin at.search (c.in_ok-attempt.ensures.scenario ∙ at.machine.scenario)
+
+pub note-requires : goal.note-requires
+note-requires c =
+    let here = c.args.here in
+    let s = c.args.self.now in
+    let choice = c.args.choice in
+    let e = c.in_ok-attempt.ensures in
+    let l = here.plan.now.logs in
+    let there = c.with_missing.ensures ∙ (ap (λ (x : Actor). with_missing x c.cursors_at-cursors.result) c.actor-actor.ensures
+    ∙ ap (with_missing (actor_of choice)) c.cursors_at-cursors.ensures) in
+    let gap = subst (λ (x : Actor). HasGap x l c.cursors_at-cursors.result) c.actor-actor.ensures (c.has_gap.ensures.0 c.if-not-has_gap.false) in
+    goes_on s here choice c.with_missing.result c.attempt.new.twin c.requires.at e.scenario e.state e.longer
+    (inr (record { named = c.requires.named; gap = subst (HasGap (actor_of choice) l) c.cursors_at-cursors.ensures gap }, there))
+
+pub returns-clause-adds : goal.returns-clause-adds
+returns-clause-adds c =
+    let p = c.args.here.plan.now in
+    let at = c.requires.at in
+    let s = c.args.self.now in
+    let twin = c.attempt.new.twin in
+    adds_then p s (record s { twin = twin }) c.note.new.self c.note.result
+    (adds_twin p s twin at.search (c.in_ok-attempt.ensures.scenario ∙ at.machine.scenario)) c.note.ensures.adds
+
+pub returns-clause-tried : goal.returns-clause-tried
+returns-clause-tried c =
+    let p = c.args.here.plan.now in
+    let h = p.start in
+    let s = c.args.self.now in
+    let new = c.note.new.self in
+    let choice = c.args.choice in
+    let at = c.args.here.at in
+    let there = c.with_missing.ensures ∙ (ap (λ (x : Actor). with_missing x c.cursors_at-cursors.result) c.actor-actor.ensures
+    ∙ ap (with_missing (actor_of choice)) c.cursors_at-cursors.ensures) in
+    if_ok (Adds p (record s { twin = c.attempt.new.twin }) new)
+    (λ (b : Bool). b ≡ true → IsKnown h new.reached c.with_missing.result (state_by h s.reached at choice))
+    (λ (b : Bool). b ≡ true → IsTried h p.logs new.reached at choice) c.note.result
+    (λ b adds known e. tried_by h p.logs s.reached new.reached at choice c.with_missing.result adds.extends c.requires.at.there there (known e))
+    c.note.ensures.adds c.note.ensures.known
