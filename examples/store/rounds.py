@@ -121,6 +121,14 @@ def add_store(parser):
     parser.add_argument('--fault', choices=FAULTS, help='; '.join('%s: %s' % pair for pair in FAULTS.items()))
     parser.add_argument('--keep', metavar='FOLDER', help='where the files of each round stay')
     parser.add_argument('--store', metavar='COMMAND', type=shlex.split, default=STORE, help='another store, in place of store.py')
+    parser.add_argument('--gap', metavar='N', type=whole, help='how many steps a gap of a log may stand for, as zy_bench order takes it')
+    parser.add_argument('--states', metavar='N', type=whole, help='after how many states zy_bench order gives up')
+
+
+def question(options):
+    """The words that ask for an order, with the flags that are given."""
+    flags = (('--gap', options.gap), ('--states', options.states))
+    return ['order', *(word for flag, value in flags if value for word in (flag, str(value)))]
 
 
 def tested(text):
@@ -131,23 +139,23 @@ def tested(text):
     return text
 
 
-def play(text, folder, seed, fault=None, crash=None, store=STORE, is_json=False):
+def play(text, folder, seed, fault=None, crash=None, store=STORE, is_json=False, words=('order',)):
     """A round: a store runs a scenario, with a fault or until it crashes, and the logs that it writes into a folder are judged."""
     put(text, folder, 'scenario')
-    words = ['--seed', str(seed)] + (['--fault', fault] if fault else []) + (['--crash', '%.4f' % crash] if crash else []) + ['--json'] * is_json
+    given = ['--seed', str(seed)] + (['--fault', fault] if fault else []) + (['--crash', '%.4f' % crash] if crash else []) + ['--json'] * is_json
     begun = time.monotonic()
-    slips = run_store([os.path.join(folder, 'scenario'), folder, *words], bool(crash), LIMIT, store)
+    slips = run_store([os.path.join(folder, 'scenario'), folder, *given], bool(crash), LIMIT, store)
     ran = time.monotonic() - begun
     logs = ''.join(log_of(folder, name, is_json) for name in ('client', 'a', 'b'))
     put(text + logs, folder, 'input')
     has_end = not crash and os.path.exists(os.path.join(folder, 'end'))
-    verdict, lines = judged(text + logs, content(folder, 'end') if has_end else None, is_json)
+    verdict, lines = judged([*words, *['--json'] * is_json], text + logs, content(folder, 'end') if has_end else None)
     return Round(verdict, lines, logs, slips, ran, time.monotonic() - begun - ran)
 
 
-def judged(text, end, is_json):
+def judged(words, text, end):
     """What is said of a scenario with logs, and of the store's end if there is one: logs have no rows and no registers."""
-    answer = ask(['order', '--json'] if is_json else ['order'], text)
+    answer = ask(words, text)
     if answer.returncode or end is None:
         return VERDICTS.get(answer.returncode, 'status %d' % answer.returncode), answer.stderr.splitlines()
     ends = zip_longest(end.splitlines(), end_of(ask(['run'], answer.stdout).stdout), fillvalue='')

@@ -16,7 +16,7 @@ use std::thread::Threads;
 use std::time::Clock;
 use zy_engine::finding::find_input;
 use zy_engine::searching::search_input;
-use zy_engine::{BenchFault, Format, SearchOptions};
+use zy_engine::{BenchFault, Format, Question, SearchOptions};
 use zy_goals::named::{Named, named_by};
 use zy_goals::reading::{read_always, read_goal};
 use zy_goals::{GoalFault, Names};
@@ -184,15 +184,12 @@ fn search_all<R: Eprint + AllocGlobal + Clock + Threads + Sync, W: Write>(
     requires { output.old.1 < u64.MAX }
 {
     let mut progress = Progress::new(rt, is_terminal);
-    let searched = search_input(
-        rt,
-        rt.alloc(),
-        quest.options,
+    let question = Question {
+        input: scenario,
+        options: quest.options,
         sought,
-        scenario,
-        output,
-        &mut progress,
-    );
+    };
+    let searched = search_input(rt, rt.alloc(), question, output, &mut progress);
     progress.clear();
     let report = searched?;
     let told = tell_answer(rt, quest, scenario, &report, output);

@@ -55,14 +55,11 @@ use std::time::Clock;
 use std::{fs, io};
 use zy_check::Verdict;
 use zy_diagnostics::line::whole_line;
-use zy_engine::checking::check_input;
+use zy_engine::checking::check_bytes;
 use zy_engine::debugging::{MAX_EVERY, MAX_RING, debug_bytes};
-use zy_engine::engine::{
-    asm_bytes, dis_bytes, objects_bytes, run_bytes, trace_bytes, traced_bytes,
-};
+use zy_engine::engine::{convert_bytes, run_bytes};
 use zy_engine::threading::threads_bytes;
-use zy_engine::{BenchFault, Format};
-use zy_io::reading::read_all;
+use zy_engine::{BenchFault, Format, RunFormat, SourceFormat};
 use zy_io::{CountingReader, Source};
 use zy_machine::Machine;
 use zy_text::cut::cut_len;
@@ -106,11 +103,13 @@ fn convert<R: Eprint + AllocGlobal + Threads + Wait + Sync, G: Read, W: Write>(
     match conversion {
         Conversion::Run(shown, format) => run(rt, shown, format, source, input, output),
         Conversion::Asm => {
-            asm_bytes(rt.alloc(), source, output, input)?;
+            let image = SourceFormat::Image;
+            convert_bytes(rt.alloc(), Format::Text, image, source, output, input)?;
             close(output)
         }
         Conversion::Dis => {
-            dis_bytes(rt.alloc(), source, output, input)?;
+            let text = SourceFormat::Text;
+            convert_bytes(rt.alloc(), Format::Image, text, source, output, input)?;
             close(output)
         }
     }
@@ -149,10 +148,7 @@ fn shown_run<R: AllocGlobal + Threads + Wait + Sync, S: Source, W: Write>(
 {
     let alloc = rt.alloc();
     match shown {
-        Shown::Listing => run_bytes(alloc, format, source, output, input),
-        Shown::Objects => objects_bytes(alloc, format, source, output, input),
-        Shown::Trace => trace_bytes(alloc, format, source, output, input),
-        Shown::TracedObjects => traced_bytes(alloc, format, source, output, input),
+        Shown::Alone(shown) => run_bytes(alloc, format, shown, source, output, input),
         Shown::ByThreads => threads_bytes(rt, alloc, format, source, output, input, &FreeGate),
     }
 }
@@ -176,9 +172,9 @@ fn check<R: Eprint + AllocGlobal, G: Read, W: Write>(
 ) -> Result<u8, BenchFault>
     requires { output.old.1 < u64.MAX }
 {
-    *input = read_all(rt.alloc(), &mut CountingReader::new(given))?;
+    let mut source = CountingReader::new(given);
+    let verdict = check_bytes(rt.alloc(), &mut source, output, input)?;
     let listing = input.as_slice();
-    let verdict = check_input(rt.alloc(), listing, output)?;
     match verdict {
         Verdict::Table => {
             flush(output)?;

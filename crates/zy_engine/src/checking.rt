@@ -67,16 +67,17 @@ pub fn check_input<K: Sink>(
     Ok(verdict)
 }
 
-/// Reads an input whole, and then does what `check_input` does.
+/// Reads an input whole, and then does what `check_input` does. The bytes that were read are left in `input`.
 pub fn check_bytes<S: Source, K: Sink>(
     alloc: Global,
     source: &mut S,
     sink: &mut K,
+    input: &mut Vec<u8>,
 ) -> Result<Verdict, BenchFault>
     requires { (S.failures source.old < u64.MAX) × (K.failures sink.old < u64.MAX) }
     ensures { let at = streams S.left S.failures S.given K.written K.failures in
         ReadsInput of_reading Checks (at source.old sink.old) (at source.new sink.new) result }
 {
-    let bytes = read_all(alloc, source)?;
-    check_input(alloc, bytes.as_slice(), sink)
+    *input = read_all(alloc, source)?;
+    check_input(alloc, input.as_slice(), sink)
 }

@@ -1,8 +1,6 @@
 //! The engine that finds the positions of a scenario's run at which a goal is met.
 ghost use Rattle.std.specs.Prelude.{◌<◌, map};
 ghost use Rattle.std.specs.Fmt.{decimal};
-ghost use Rattle.zy_engine.specs.Engines.{ReadsInput, streams};
-ghost use Rattle.zy_engine.specs.Faults.{of_reading};
 ghost use Rattle.zy_engine.specs.Finding.{positions_text};
 ghost use Rattle.zy_engine.specs.OnInput.{OnInput};
 ghost use Rattle.zy_engine.specs.Outputs.{WroteOutput};
@@ -10,8 +8,7 @@ ghost use Rattle.zy_engine.specs.Outputs.{WroteOutput};
 use crate::faults::BenchFault;
 use crate::format::{Format, accept};
 use std::alloc::{AllocError, Global};
-use zy_io::reading::read_all;
-use zy_io::{AllLines, Decimal, Line, LineBuffer, Lines, Section, Sink, Source, TextFault};
+use zy_io::{AllLines, Decimal, Line, LineBuffer, Lines, Section, Sink, TextFault};
 use zy_isa::Scenario;
 use zy_search::Sought;
 use zy_search::along::along;
@@ -66,22 +63,4 @@ pub fn find_input<K: Sink>(
     let scenario = accept(alloc, format, input)?;
     let count = write_positions(alloc, scenario, sought, sink)?;
     Ok(count)
-}
-
-/// Reads an input whole, and then does what `find_input` does. The bytes that were read are left in `input`.
-pub fn find_bytes<S: Source, K: Sink>(
-    alloc: Global,
-    format: Format,
-    sought: &Sought,
-    source: &mut S,
-    sink: &mut K,
-    input: &mut Vec<u8>,
-) -> Result<usize, BenchFault>
-    requires { (S.failures source.old < u64.MAX) × (K.failures sink.old < u64.MAX) }
-    ensures { let at = streams S.left S.failures S.given K.written K.failures in
-        ReadsInput of_reading (OnInput (WroteOutput (positions_text sought.now)) format) (at source.old sink.old)
-        (at source.new sink.new) result }
-{
-    *input = read_all(alloc, source)?;
-    find_input(alloc, format, sought, input.as_slice(), sink)
 }

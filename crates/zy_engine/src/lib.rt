@@ -17,5 +17,6 @@ pub mod wording;
 
 pub use crate::faults::BenchFault;
 pub use crate::format::Format;
-pub use crate::searching::SearchOptions;
+pub use crate::output::{RunFormat, SourceFormat};
+pub use crate::searching::{Question, SearchOptions};
 pub use crate::wording::Wording;

@@ -5,8 +5,6 @@ ghost use Rattle.zy_text.specs.Canon.{canon};
 ghost use Rattle.zy_text.specs.Text.{Means};
 ghost use Rattle.zy_threads.specs.Orders.{reordered};
 ghost use Rattle.zy_engine.specs.declared.wording.Wording.TheVariants.{Own};
-ghost use Rattle.zy_engine.specs.Engines.{ReadsInput, streams};
-ghost use Rattle.zy_engine.specs.Faults.{of_reading};
 ghost use Rattle.zy_engine.specs.OnInput.{OnInput};
 ghost use Rattle.zy_engine.specs.Searching.{history_of, IsTextOf, IsWorded, WroteAnswer, WroteSome};
 
@@ -18,9 +16,8 @@ use std::alloc::{AllocError, Global};
 use std::thread::Threads;
 use zy_asm::assembling::assemble_bytes;
 use zy_disasm::ScenarioHead;
-use zy_io::reading::read_all;
 use zy_io::writing::write_all;
-use zy_io::{AllLines, LineBuffer, MAX_INPUT, One, Section, Sink, Source, TextFault, sections};
+use zy_io::{AllLines, LineBuffer, MAX_INPUT, One, Section, Sink, TextFault, sections};
 use zy_isa::{Choice, Scenario};
 use zy_machine::{Fault, Machine};
 use zy_search::search::search;
@@ -41,6 +38,17 @@ pub struct SearchOptions {
     pub most: u32,
     /// How many threads look ahead. What comes of the search does not depend on it.
     pub threads: u32,
+}
+
+/// What a search is asked.
+#[derive(Drop)]
+pub struct Question<'a> {
+    /// The text or the image of the scenario that it is about.
+    pub input: &'a [u8],
+    /// What the search goes by.
+    pub options: SearchOptions,
+    /// What it looks for.
+    pub sought: Sought,
 }
 
 /// The machine of a scenario that has made its first choices, or all where there are fewer.
@@ -208,22 +216,25 @@ fn write_answer<K: Sink>(
     }
 }
 
-/// Makes the choices of a scenario that are steps already taken, looks at the states that further ones lead to, and
-/// writes what goes out of the answer. The scenario's own text is at hand.
+/// Makes the choices that are steps already taken of the scenario that the question is about, looks at the states that
+/// further ones lead to, and writes what goes out of the answer.
 fn write_search<R: Threads + Sync, K: Sink, W: Watch>(
     rt: &R,
     alloc: Global,
-    options: SearchOptions,
-    text: &[u8],
+    question: Question<'_>,
     scenario: Scenario,
-    sought: Sought,
     sink: &mut K,
     watch: &mut W,
 ) -> Result<SearchReport, TextFault>
     requires { K.failures sink.old < u64.MAX }
-    ensures { WroteAnswer options sought scenario (K.written sink.old) (K.written sink.new) (K.failures sink.old)
-        (K.failures sink.new) result }
+    ensures { WroteAnswer question.entry.options question.entry.sought scenario (K.written sink.old) (K.written sink.new)
+        (K.failures sink.old) (K.failures sink.new) result }
 {
+    let Question {
+        input: text,
+        options,
+        sought,
+    } = question;
     let machine = run_taken(alloc, scenario, options.from)?;
     let limits = Limits {
         states: options.most,
@@ -234,43 +245,21 @@ fn write_search<R: Threads + Sync, K: Sink, W: Watch>(
     Ok(report)
 }
 
-/// Makes the choices that are steps already taken of the scenario that an input stands for, and looks for a state that further
-/// ones lead to and that shows what is sought. Where there is one, the scenario goes out with these choices and a shortest list
-/// of further ones behind them; else nothing does. The watch learns how far the search is.
+/// Makes the choices that are steps already taken of the scenario that a question is about, and looks for a state that
+/// further ones lead to and that shows what is sought. Where there is one, the scenario goes out with these choices and
+/// a shortest list of further ones behind them; else nothing does. The watch learns how far the search is.
 pub fn search_input<R: Threads + Sync, K: Sink, W: Watch>(
     rt: &R,
     alloc: Global,
-    options: SearchOptions,
-    sought: Sought,
-    input: &[u8],
+    question: Question<'_>,
     sink: &mut K,
     watch: &mut W,
 ) -> Result<SearchReport, BenchFault>
     requires { K.failures sink.old < u64.MAX }
-    ensures { OnInput (WroteAnswer options sought) options.format input.now (K.written sink.old) (K.written sink.new)
-        (K.failures sink.old) (K.failures sink.new) result }
+    ensures { OnInput (WroteAnswer question.entry.options question.entry.sought) question.entry.options.format
+        question.entry.input.now (K.written sink.old) (K.written sink.new) (K.failures sink.old) (K.failures sink.new) result }
 {
-    let scenario = accept(alloc, options.format, input)?;
-    let report = write_search(rt, alloc, options, input, scenario, sought, sink, watch)?;
+    let scenario = accept(alloc, question.options.format, question.input)?;
+    let report = write_search(rt, alloc, question, scenario, sink, watch)?;
     Ok(report)
-}
-
-/// Reads an input whole, and then does what `search_input` does. The bytes that were read are left in `input`.
-pub fn search_bytes<R: Threads + Sync, S: Source, K: Sink, W: Watch>(
-    rt: &R,
-    alloc: Global,
-    options: SearchOptions,
-    sought: Sought,
-    source: &mut S,
-    sink: &mut K,
-    input: &mut Vec<u8>,
-    watch: &mut W,
-) -> Result<SearchReport, BenchFault>
-    requires { (S.failures source.old < u64.MAX) × (K.failures sink.old < u64.MAX) }
-    ensures { let at = streams S.left S.failures S.given K.written K.failures in
-        ReadsInput of_reading (OnInput (WroteAnswer options sought) options.format) (at source.old sink.old)
-        (at source.new sink.new) result }
-{
-    *input = read_all(alloc, source)?;
-    search_input(rt, alloc, options, sought, input.as_slice(), sink, watch)
 }

@@ -43,22 +43,33 @@ fn write_answer<K: Sink>(
     }
 }
 
-/// Makes the choices of a scenario, looks for an order of the lines of logs behind them, and writes what goes out of the answer.
-/// The scenario's own text is at hand.
+/// A scenario with its own text, and the lines of logs below it.
+#[derive(Drop)]
+struct LoggedScenario<'a> {
+    text: &'a [u8],
+    scenario: Scenario,
+    lines: &'a [NumberedLine],
+}
+
+/// Makes the choices of a scenario, looks for an order of the lines of its logs behind them, and writes what goes out of the
+/// answer.
 fn write_order<K: Sink, W: Watch>(
     alloc: Global,
     options: OrderOptions,
-    text: &[u8],
-    scenario: Scenario,
-    lines: &[NumberedLine],
+    logged: LoggedScenario<'_>,
     sink: &mut K,
     watch: &mut W,
 ) -> Result<OrderReport, TextFault>
-    requires input { CanFollow (history_of None scenario) options.gap lines.now }
+    requires input { CanFollow (history_of None logged.scenario) options.gap logged.lines.now }
     requires calls { K.failures sink.old < u64.MAX }
-    ensures { WroteOrder (IsAnswerOf options scenario lines.now)
+    ensures { WroteOrder (IsAnswerOf options logged.entry.scenario logged.entry.lines.now)
         (K.written sink.old) (K.written sink.new) (K.failures sink.old) (K.failures sink.new) result }
 {
+    let LoggedScenario {
+        text,
+        scenario,
+        lines,
+    } = logged;
     let steps = steps(alloc, lines)?;
     let gaps = gaps(alloc, options.gap, lines)?;
     let machine = Machine::run_all(alloc, scenario)?;
@@ -86,7 +97,12 @@ pub fn order_input<K: Sink, W: Watch>(
     let (text, below) = split_scenario(input);
     let scenario = accept(alloc, Format::Text, text)?;
     let lines = read_below(alloc, options.logs, options.gap, &scenario, text, below)?;
-    let report = write_order(alloc, options, text, scenario, &lines, sink, watch)?;
+    let logged = LoggedScenario {
+        text,
+        scenario,
+        lines: &lines,
+    };
+    let report = write_order(alloc, options, logged, sink, watch)?;
     Ok(report)
 }
 

@@ -7,10 +7,8 @@ use crate::texts::{Prefix, room};
 use std::alloc::Global;
 use zy_engine::checking::check_bytes;
 use zy_engine::debugging::debug_bytes;
-use zy_engine::engine::{
-    asm_bytes, dis_bytes, objects_bytes, run_bytes, trace_bytes, traced_bytes,
-};
-use zy_engine::{Format, Wording};
+use zy_engine::engine::{convert_bytes, run_bytes};
+use zy_engine::{Format, RunFormat, SourceFormat, Wording};
 use zy_image::save::save;
 use zy_io::{SliceSource, VecSink};
 use zy_listing::run::write_run;
@@ -20,18 +18,22 @@ use zy_ordering::{LogFormat, OrderOptions, Watch};
 /// An engine, and what it reads.
 #[derive(Clone, Copy)]
 enum Engine {
-    RunText,
-    RunImage,
-    Objects,
-    Trace,
-    TracedObjects,
-    Asm,
-    Dis,
+    Run(Format, RunFormat),
+    Convert(Format, SourceFormat),
     Check,
     Debug,
     Order,
     OrderObjects,
 }
+
+/// Runs an image.
+const RUN_IMAGE: Engine = Engine::Run(Format::Image, RunFormat::Listing);
+
+/// Makes the image of a text.
+const ASM: Engine = Engine::Convert(Format::Text, SourceFormat::Image);
+
+/// Makes the text of an image.
+const DIS: Engine = Engine::Convert(Format::Image, SourceFormat::Text);
 
 /// What an order is looked for by.
 const OPTIONS: OrderOptions = OrderOptions {
@@ -66,32 +68,13 @@ fn work(
 {
     let mut input = Vec::new(alloc);
     match engine {
-        Engine::RunText => tested(ended(run_bytes(alloc, Format::Text, source, sink, &mut input))),
-        Engine::RunImage => tested(ended(run_bytes(
-            alloc,
-            Format::Image,
-            source,
-            sink,
-            &mut input,
+        Engine::Run(format, shown) => tested(ended(run_bytes(
+            alloc, format, shown, source, sink, &mut input,
         ))),
-        Engine::Objects => tested(ended(objects_bytes(
-            alloc,
-            Format::Text,
-            source,
-            sink,
-            &mut input,
-        ))),
-        Engine::Trace => tested(ended(trace_bytes(alloc, Format::Text, source, sink, &mut input))),
-        Engine::TracedObjects => tested(ended(traced_bytes(
-            alloc,
-            Format::Text,
-            source,
-            sink,
-            &mut input,
-        ))),
-        Engine::Asm => tested(asm_bytes(alloc, source, sink, &mut input)),
-        Engine::Dis => tested(dis_bytes(alloc, source, sink, &mut input)),
-        Engine::Check => tested(ended(check_bytes(alloc, source, sink))),
+        Engine::Convert(format, output) => tested(convert_bytes(
+            alloc, format, output, source, sink, &mut input,
+        )),
+        Engine::Check => tested(ended(check_bytes(alloc, source, sink, &mut input))),
         Engine::Debug => tested(debug_bytes(alloc, 2, 1, source, sink, &mut input)),
         Engine::Order => tested(ended(order_bytes(
             alloc,
@@ -140,6 +123,11 @@ fn sweep_engine(alloc: Global, engine: Engine, input: &[u8]) -> Findings {
     })
 }
 
+/// The engines that run a text.
+fn sweep_run(alloc: Global, shown: RunFormat, input: &[u8]) -> Findings {
+    sweep_engine(alloc, Engine::Run(Format::Text, shown), input)
+}
+
 /// The engines that read an image: that of the input.
 fn sweep_image(alloc: Global, engine: Engine, input: &[u8]) -> Result<Findings, Refused> {
     let image = prepared(save(alloc, &scenario(alloc, input)?))?;
@@ -153,17 +141,17 @@ fn sweep_listing(alloc: Global, input: &[u8]) -> Result<Findings, Refused> {
     Ok(sweep_engine(alloc, Engine::Check, listing.bytes()))
 }
 
-/// The sweep of this name, over a scenario's text, if it is one of these. That of `debug_bytes` has commands below it, and
-/// that of `order_bytes` logs, of `order_objects_bytes` logs of objects.
+/// The sweep of this name, over a scenario's text, if it is one of these. That of `debug_bytes` has commands below it,
+/// and that of `order_bytes` logs, of `order_objects_bytes` logs of objects.
 pub fn sweep_named(name: &str, alloc: Global, input: &[u8]) -> Option<Result<Findings, Refused>> {
     match name {
-        "run_bytes" => Some(Ok(sweep_engine(alloc, Engine::RunText, input))),
-        "run_image_bytes" => Some(sweep_image(alloc, Engine::RunImage, input)),
-        "objects_bytes" => Some(Ok(sweep_engine(alloc, Engine::Objects, input))),
-        "trace_bytes" => Some(Ok(sweep_engine(alloc, Engine::Trace, input))),
-        "traced_bytes" => Some(Ok(sweep_engine(alloc, Engine::TracedObjects, input))),
-        "asm_bytes" => Some(Ok(sweep_engine(alloc, Engine::Asm, input))),
-        "dis_bytes" => Some(sweep_image(alloc, Engine::Dis, input)),
+        "run_bytes" => Some(Ok(sweep_run(alloc, RunFormat::Listing, input))),
+        "run_image_bytes" => Some(sweep_image(alloc, RUN_IMAGE, input)),
+        "objects_bytes" => Some(Ok(sweep_run(alloc, RunFormat::Objects, input))),
+        "trace_bytes" => Some(Ok(sweep_run(alloc, RunFormat::Trace, input))),
+        "traced_bytes" => Some(Ok(sweep_run(alloc, RunFormat::TracedObjects, input))),
+        "asm_bytes" => Some(Ok(sweep_engine(alloc, ASM, input))),
+        "dis_bytes" => Some(sweep_image(alloc, DIS, input)),
         "check_bytes" => Some(sweep_listing(alloc, input)),
         "debug_bytes" => Some(Ok(sweep_engine(alloc, Engine::Debug, input))),
         "order_bytes" => Some(Ok(sweep_engine(alloc, Engine::Order, input))),

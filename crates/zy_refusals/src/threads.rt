@@ -14,7 +14,7 @@ use zy_check::Verdict;
 use zy_check::check::compare;
 use zy_engine::engine::run_bytes;
 use zy_engine::threading::threads_bytes;
-use zy_engine::{BenchFault, Format};
+use zy_engine::{BenchFault, Format, RunFormat};
 use zy_io::{SliceSource, VecSink};
 use zy_isa::{Choice, Scenario};
 use zy_listing::listing::write_listing;
@@ -45,7 +45,14 @@ fn repeat(alloc: Global, listing: &[u8]) -> Result<(), Refused> {
     let mut sink = VecSink::new(room(alloc)?);
     let mut source = SliceSource::new(part);
     let mut input = Vec::new(alloc);
-    prepared(run_bytes(alloc, Format::Text, &mut source, &mut sink, &mut input))?;
+    prepared(run_bytes(
+        alloc,
+        Format::Text,
+        RunFormat::Listing,
+        &mut source,
+        &mut sink,
+        &mut input,
+    ))?;
     if sink.bytes() == listing {
         Ok(())
     } else {

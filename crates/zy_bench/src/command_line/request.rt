@@ -3,7 +3,7 @@
 use crate::command_line::table::command_of;
 use clap::ArgMatches;
 use zy_diagnostics::CommandName;
-use zy_engine::{Format, SearchOptions, Wording};
+use zy_engine::{Format, RunFormat, SearchOptions, Wording};
 use zy_ordering::{LogFormat, OrderOptions};
 use zy_search::ChoiceKinds;
 
@@ -76,15 +76,9 @@ pub enum Conversion {
 /// What is printed of a run.
 #[derive(Clone, Copy)]
 pub enum Shown {
-    /// The listing.
-    Listing,
-    /// The steps, each as an object of JSON.
-    Objects,
-    /// The trace.
-    Trace,
-    /// The steps of the trace, each as an object of JSON.
-    TracedObjects,
-    /// The listing of the run by three threads.
+    /// Something of a run by one thread.
+    Alone(RunFormat),
+    /// The listing of a run by three threads.
     ByThreads,
 }
 
@@ -102,8 +96,8 @@ pub fn request_of<'a>(matches: &ArgMatches<'a>) -> Option<Request<'a>> {
 /// What the words behind that of a command ask for.
 fn task_of<'a>(command: CommandName, words: &ArgMatches<'a>) -> Task<'a> {
     match command {
-        CommandName::Run => shown(words, Shown::Listing, Shown::Objects),
-        CommandName::Trace => shown(words, Shown::Trace, Shown::TracedObjects),
+        CommandName::Run => shown(words, RunFormat::Listing, RunFormat::Objects),
+        CommandName::Trace => shown(words, RunFormat::Trace, RunFormat::TracedObjects),
         CommandName::Threads => run_shown(words, Shown::ByThreads),
         CommandName::Asm => Task::Convert(Conversion::Asm),
         CommandName::Dis => Task::Convert(Conversion::Dis),
@@ -116,13 +110,13 @@ fn task_of<'a>(command: CommandName, words: &ArgMatches<'a>) -> Task<'a> {
 }
 
 /// Shows a run as a text, or with `--json` as objects.
-fn shown<'a>(words: &ArgMatches<'_>, text: Shown, objects: Shown) -> Task<'a> {
+fn shown<'a>(words: &ArgMatches<'_>, text: RunFormat, objects: RunFormat) -> Task<'a> {
     let shown = if words.get_flag("json") {
         objects
     } else {
         text
     };
-    run_shown(words, shown)
+    run_shown(words, Shown::Alone(shown))
 }
 
 /// Shows a run in this form.

@@ -9,25 +9,25 @@ use Rattle.zy_engine.proofs.searching.write_search.Goals as goal
 
 pub write_answer-requires-clause-taken : goal.write_answer-requires-clause-taken
 write_answer-requires-clause-taken g c =
-    subst (λ (h : History). length h.entries ≤ length h.scenario.choices) (sym c.in_ok-machine.ensures) (taken-few c.args.options.from c.args.scenario)
+    subst (λ (h : History). length h.entries ≤ length h.scenario.choices) (sym c.in_ok-machine.ensures) (taken-few c.args.question.options.from c.args.scenario)
 
 pub returns-in_err-machine : goal.returns-in_err-machine
 returns-in_err-machine g c =
     let p = err_from_is_err_and c.from_residual.result c.from_residual.ensures.1 in
     rw (p.1, p.2) (
-    nothing_searched c.args.options c.args.scenario c.args.sought (g.K.Sink.written c.args.sink.now) (g.K.Sink.failures c.args.sink.now)
+    nothing_searched c.args.question.options c.args.scenario c.args.question.sought (g.K.Sink.written c.args.sink.now) (g.K.Sink.failures c.args.sink.now)
     )
 
 pub returns-in_err-report : goal.returns-in_err-report
 returns-in_err-report g c =
     let p = err_from_is_err_and c.from_residual-in_err-report.result c.from_residual-in_err-report.ensures.1 in
     rw (p.1, p.2) (
-    nothing_searched c.args.options c.args.scenario c.args.sought (g.K.Sink.written c.args.sink.now) (g.K.Sink.failures c.args.sink.now)
+    nothing_searched c.args.question.options c.args.scenario c.args.question.sought (g.K.Sink.written c.args.sink.now) (g.K.Sink.failures c.args.sink.now)
     )
 
 pub returns-in_err-write_answer : goal.returns-in_err-write_answer
 returns-in_err-write_answer g c =
-    let o = c.args.options in
+    let o = c.args.question.options in
     let report = c.in_ok-report.report in
     let before = g.K.Sink.written c.args.sink.now in
     let behind = g.K.Sink.written c.write_answer.new.sink in
@@ -38,7 +38,7 @@ returns-in_err-write_answer g c =
     let p = err_from_is_err_and c.from_residual-in_err-write_answer.result c.from_residual-in_err-write_answer.ensures.1 in
     rw (p.1, p.2) (record {
       answer = report.answer;
-      is = subst (λ (h : History). IsAnswer h c.args.sought report.answer) c.in_ok-machine.ensures c.in_ok-report.ensures.answer;
+      is = subst (λ (h : History). IsAnswer h c.args.question.sought report.answer) c.in_ok-machine.ensures c.in_ok-report.ensures.answer;
       returned = tt;
       due = tt;
       wrote = record { text = wrote.text; is = wrote.is; wrote = wrote_err SearchReport before behind failures after fault wrote.text wrote.wrote };
@@ -46,7 +46,7 @@ returns-in_err-write_answer g c =
 
 pub returns : goal.returns
 returns g c =
-    let o = c.args.options in
+    let o = c.args.question.options in
     let report = c.in_ok-report.report in
     let before = g.K.Sink.written c.args.sink.now in
     let behind = g.K.Sink.written c.write_answer.new.sink in
@@ -55,8 +55,8 @@ returns g c =
     let wrote = wrote_first o c.args.scenario report.answer before behind failures after (Ok c.in_ok-write_answer.field-0) _ c.in_ok-machine.ensures c.in_ok-write_answer.ensures in
     record {
       answer = report.answer;
-      is = subst (λ (h : History). IsAnswer h c.args.sought report.answer) c.in_ok-machine.ensures c.in_ok-report.ensures.answer;
+      is = subst (λ (h : History). IsAnswer h c.args.question.sought report.answer) c.in_ok-machine.ensures c.in_ok-report.ensures.answer;
       returned = refl;
-      due = subst (λ (h : History). IsDue h c.args.sought o.most report.answer) c.in_ok-machine.ensures c.in_ok-report.ensures.due;
+      due = subst (λ (h : History). IsDue h c.args.question.sought o.most report.answer) c.in_ok-machine.ensures c.in_ok-report.ensures.due;
       wrote = record { text = wrote.text; is = wrote.is; wrote = wrote.wrote };
     }

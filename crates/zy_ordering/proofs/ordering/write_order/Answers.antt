@@ -14,11 +14,11 @@ use Rattle.zy_ordering.proofs.ordering.write_order.Goals as goal
 
 pub order-requires : goal.order-requires
 order-requires g c =
-    rw (c.in_ok-machine.ensures.run, c.deref.ensures.value, c.in_ok-steps.ensures) (input_is (history_of None c.args.scenario) c.args.options.gap
-    c.args.lines.now c.in_ok-gaps.gaps c.requires.input c.in_ok-gaps.ensures)
+    rw (c.in_ok-machine.ensures.run, c.deref.ensures.value, c.in_ok-steps.ensures) (input_is (history_of None c.args.logged.scenario) c.args.options.gap
+    c.args.logged.lines.now c.in_ok-gaps.gaps c.requires.input c.in_ok-gaps.ensures)
 
 pub write_answer-requires-clause-ran : goal.write_answer-requires-clause-ran
-write_answer-requires-clause-ran g c = ran_own _ c.args.scenario c.in_ok-machine.ensures.run
+write_answer-requires-clause-ran g c = ran_own _ c.args.logged.scenario c.in_ok-machine.ensures.run
 
 pub returns-in_err-steps : goal.returns-in_err-steps
 returns-in_err-steps g c =
@@ -48,7 +48,7 @@ returns-in_err-write_answer g c =
     let after = g.K.Sink.failures c.write_answer.new.sink in
     let o = c.args.options in
     let w = o.wording in
-    let numbered = c.args.lines.now in
+    let numbered = c.args.logged.lines.now in
     let gaps = c.in_ok-gaps.gaps in
     let a = c.in_ok-report.report.answer in
     let fault = c.in_err-write_answer.field-0.0 in
@@ -58,7 +58,7 @@ returns-in_err-write_answer g c =
     let wrote = subst (λ (h : History). WroteSome {X = Unit {0}} (IsTextOf w h.scenario a) old new before after (Err fault)) c.in_ok-machine.ensures.run
     c.in_err-write_answer.ensures in
     let p = err_from_is_err_and c.from_residual-in_err-write_answer.result c.from_residual-in_err-write_answer.ensures.1 in
-    rw (p.1, p.2) (wrote_failed o c.args.scenario numbered gaps a old new before after fault c.in_ok-gaps.ensures is wrote)
+    rw (p.1, p.2) (wrote_failed o c.args.logged.scenario numbered gaps a old new before after fault c.in_ok-gaps.ensures is wrote)
 
 pub returns : goal.returns
 returns g c =
@@ -68,7 +68,7 @@ returns g c =
     let after = g.K.Sink.failures c.write_answer.new.sink in
     let o = c.args.options in
     let w = o.wording in
-    let numbered = c.args.lines.now in
+    let numbered = c.args.logged.lines.now in
     let gaps = c.in_ok-gaps.gaps in
     let a = c.in_ok-report.report.answer in
     let lines = c.deref.ensures.value ∙ c.in_ok-steps.ensures in
