@@ -96,8 +96,8 @@ pub fn request_of<'a>(matches: &ArgMatches<'a>) -> Option<Request<'a>> {
 /// What the words behind that of a command ask for.
 fn task_of<'a>(command: CommandName, words: &ArgMatches<'a>) -> Task<'a> {
     match command {
-        CommandName::Run => shown(words, RunFormat::Listing, RunFormat::Objects),
-        CommandName::Trace => shown(words, RunFormat::Trace, RunFormat::TracedObjects),
+        CommandName::Run => run_either(words, RunFormat::Listing, RunFormat::Objects),
+        CommandName::Trace => run_either(words, RunFormat::Trace, RunFormat::TracedObjects),
         CommandName::Threads => run_shown(words, Shown::ByThreads),
         CommandName::Asm => Task::Convert(Conversion::Asm),
         CommandName::Dis => Task::Convert(Conversion::Dis),
@@ -110,7 +110,7 @@ fn task_of<'a>(command: CommandName, words: &ArgMatches<'a>) -> Task<'a> {
 }
 
 /// Shows a run as a text, or with `--json` as objects.
-fn shown<'a>(words: &ArgMatches<'_>, text: RunFormat, objects: RunFormat) -> Task<'a> {
+fn run_either<'a>(words: &ArgMatches<'_>, text: RunFormat, objects: RunFormat) -> Task<'a> {
     let shown = if words.get_flag("json") {
         objects
     } else {
