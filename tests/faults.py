@@ -412,7 +412,7 @@ SCRIPT_FAULTS = [
     script('store: --rule of try ignored', 'examples/store/try', 'options.rule or RULES[number % 2]', 'RULES[number % 2]', 'store'),
 ]
 
-COMMAND_LINE, WORDS = 'zy_bench/src/command_line.rt', 'zy_goals/src/reading/words.rt'
+COMMAND_LINE, WORDS = 'zy_bench/src/command_line/request.rt', 'zy_goals/src/reading/words.rt'
 
 NO_FLAG = 'with no flag other copies'
 
@@ -436,9 +436,9 @@ PROGRAM_FAULTS = [
     program(4, 'a listing is gathered whole', 'zy_io/src/section.rt',
             'const MANY: usize = 4096;', 'const MANY: usize = 4194304;', 'writes: ', 'limits writes'),
     program(1, 'search names no order', 'zy_bench/src/answering.rt',
-            'explain_found(rt, options, scenario, path);', '();', 'search: status 0', 'orders 1'),
+            'explain_found(rt, quest.options, scenario, path);', '();', 'search: status 0', 'orders 1'),
     program(2, 'search names the order before the choices that it has found', 'zy_bench/src/answering.rt',
-            'explain_found(rt, options, scenario, path);', 'explain_found(rt, options, scenario, &[]);', 'and .zy_bench: the rows are those', 'searches'),
+            'explain_found(rt, quest.options, scenario, path);', 'explain_found(rt, quest.options, scenario, &[]);', 'and .zy_bench: the rows are those', 'searches'),
     program(3, 'check says nothing of carriage returns', 'zy_bench/src/excerpt.rt', 'if self.has_return() {', 'if self.has_return() && false {',
             'carriage returns', 'listings'),
     program(3, 'a fault below a file is said to be a line too far', 'zy_bench/src/advised.rt',
@@ -463,8 +463,8 @@ PROGRAM_FAULTS = [
     program(6, 'find has found something wherever it looks', 'zy_bench/src/answering.rt', 'if count == 0 { NOWHERE } else { DONE }', 'DONE', '^find-none', 'run'),
     program(6, 'a found schedule has no names', 'zy_engine/src/wording.rt',
             'Some(name) if !name.is_empty() =>', 'Some(name) if name.len() > 99 =>', '^search-own-words:', 'run'),
-    program(1, '--json of run ignored', COMMAND_LINE, 'Conversion::Objects(format)\n', 'Conversion::Run(format)\n', '^run-objects:', 'run'),
-    program(1, '--json of trace ignored', COMMAND_LINE, 'Conversion::TracedObjects(format)\n', 'Conversion::Trace(format)\n', '^trace-objects:', 'run'),
+    program(1, '--json of run ignored', COMMAND_LINE, 'RunFormat::Listing, RunFormat::Objects)', 'RunFormat::Listing, RunFormat::Listing)', '^run-objects:', 'run'),
+    program(1, '--json of trace ignored', COMMAND_LINE, 'RunFormat::Trace, RunFormat::TracedObjects)', 'RunFormat::Trace, RunFormat::Trace)', '^trace-objects:', 'run'),
     program(2, '--json of trace is that of run', 'zy_engine/src/output.rt', 'RunFormat::TracedObjects => trace::write_objects(alloc, scenario, sink)',
             'RunFormat::TracedObjects => write_objects(alloc, scenario, sink)', '^trace-objects:', 'run'),
     program(2, '--json of order ignored', COMMAND_LINE, 'LogFormat::Json\n', 'LogFormat::Text\n', '^order-objects:', 'run'),

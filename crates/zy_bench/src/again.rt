@@ -27,15 +27,42 @@ pub fn run_again(
 /// Makes the choices of a scenario.
 pub fn make_again(alloc: Global, format: Format, scenario: &[u8]) -> Result<Machine, BenchFault> {
     let mut kept = LineKept::new(alloc, 0);
-    run_again(alloc, format, scenario, &mut kept)
+    let made = run_again(alloc, format, scenario, &mut kept);
+    drop(kept);
+    made
+}
+
+/// Makes the choices of a scenario, for the fault that this may end in alone.
+pub fn test_again(alloc: Global, format: Format, scenario: &[u8]) -> Result<(), BenchFault> {
+    make_again(alloc, format, scenario).map(drop)
+}
+
+/// How many choices a scenario makes.
+pub fn count_again(alloc: Global, format: Format, scenario: &[u8]) -> Result<usize, BenchFault> {
+    let machine = make_again(alloc, format, scenario)?;
+    let count = machine.len();
+    drop(machine);
+    Ok(count)
+}
+
+/// Makes the choices of the scenario of an input, and keeps a line of the listing that the input is to be.
+fn keep_due(alloc: Global, input: &[u8], kept: &mut LineKept) -> Result<(), BenchFault> {
+    let machine = run_again(alloc, Format::Text, scenario_part(input), kept)?;
+    drop(machine);
+    if kept.is_refused() {
+        return Err(BenchFault::Memory);
+    }
+    Ok(())
 }
 
 /// The line of this number of the listing that an input is to be.
 pub fn line_due(alloc: Global, input: &[u8], line: usize) -> Result<LineKept, BenchFault> {
     let mut kept = LineKept::new(alloc, line);
-    run_again(alloc, Format::Text, scenario_part(input), &mut kept)?;
-    if kept.is_refused() {
-        return Err(BenchFault::Memory);
+    match keep_due(alloc, input, &mut kept) {
+        Ok(()) => Ok(kept),
+        Err(fault) => {
+            drop(kept);
+            Err(fault)
+        }
     }
-    Ok(kept)
 }

@@ -1,8 +1,8 @@
 //! The commands `search` and `find`: a goal is read, and answered.
 ghost use Rattle.std.specs.Prelude.{◌<◌};
 
-use crate::again::make_again;
-use crate::command_line::Quest;
+use crate::again::{count_again, make_again, test_again};
+use crate::command_line::request::Quest;
 use crate::exit_status::{COMMAND_LINE, DONE, NOWHERE, SPENT};
 use crate::explained::explain_found;
 use crate::marked::Marked;
@@ -22,16 +22,18 @@ use zy_goals::reading::{read_always, read_goal};
 use zy_goals::{GoalFault, Names};
 use zy_io::CountingReader;
 use zy_io::reading::read_all;
+use zy_machine::Machine;
 use zy_search::{SearchAnswer, SearchReport, Sought};
 
 /// What a search is to look for, in a scenario whose transactions have these names.
 fn sought_of(alloc: Global, quest: Quest<'_>, names: Names<'_>) -> Result<Sought, GoalFault> {
     let text = quest.text.as_bytes();
-    let query = if quest.is_always {
-        read_always(alloc, text, names)?
+    let read = if quest.is_always {
+        read_always(alloc, text, names)
     } else {
-        read_goal(alloc, text, names)?
+        read_goal(alloc, text, names)
     };
+    let query = read?;
     Ok(Sought {
         goal: query.goal,
         then: query.then,
@@ -72,15 +74,26 @@ pub fn answer<R: Eprint + AllocGlobal + Clock + Threads + Sync, G: Read, W: Writ
 ) -> Result<u8, BenchFault>
     requires { output.old.1 < u64.MAX }
 {
-    if let Err(fault) = sought_of(rt.alloc(), quest, Names::Unknown) {
+    if let Some(fault) = sought_of(rt.alloc(), quest, Names::Unknown).err() {
         return no_goal(rt, quest, fault);
     }
     *input = read_all(rt.alloc(), &mut CountingReader::new(given))?;
-    let scenario = input.as_slice();
-    let names = names_in(rt.alloc(), quest.options.format, scenario)?;
-    match sought_of(rt.alloc(), quest, Names::Known(&names)) {
+    answer_read(rt, asked, quest, input.as_slice(), output)
+}
+
+/// Answers what is asked of a scenario that was read, and gives the exit status.
+fn answer_read<R: Eprint + AllocGlobal + Clock + Threads + Sync, W: Write>(
+    rt: &R,
+    asked: Asked,
+    quest: Quest<'_>,
+    scenario: &[u8],
+    output: &mut PipeSink<W>,
+) -> Result<u8, BenchFault>
+    requires { output.old.1 < u64.MAX }
+{
+    match sought_in(rt.alloc(), quest, scenario)? {
         Ok(sought) => {
-            warn(rt, quest.options.format, scenario, named_by(&sought.goal))?;
+            let sought = warned(rt, quest.options.format, scenario, sought)?;
             match asked {
                 Asked::Schedule { is_terminal } => {
                     search(rt, quest, sought, scenario, output, is_terminal)
@@ -90,10 +103,22 @@ pub fn answer<R: Eprint + AllocGlobal + Clock + Threads + Sync, G: Read, W: Writ
         }
         Err(fault) => {
             // A scenario that is rejected has no names.
-            make_again(rt.alloc(), quest.options.format, scenario)?;
+            test_again(rt.alloc(), quest.options.format, scenario)?;
             no_goal(rt, quest, fault)
         }
     }
+}
+
+/// What is looked for in a scenario, or why its goal is not read.
+fn sought_in(
+    alloc: Global,
+    quest: Quest<'_>,
+    scenario: &[u8],
+) -> Result<Result<Sought, GoalFault>, BenchFault> {
+    let names = names_in(alloc, quest.options.format, scenario)?;
+    let sought = sought_of(alloc, quest, Names::Known(&names));
+    drop(names);
+    Ok(sought)
 }
 
 /// The names of the transactions of a scenario; an image has none.
@@ -113,15 +138,14 @@ fn lacking(
     let Some(from) = options.from else {
         return Ok(None);
     };
-    let machine = make_again(alloc, options.format, scenario)?;
-    if machine.len() < from {
-        return Ok(Some(Count::of(machine.len(), "choice")));
+    let count = count_again(alloc, options.format, scenario)?;
+    if count < from {
+        return Ok(Some(Count::of(count, "choice")));
     }
     Ok(None)
 }
 
-/// Searches the schedules of a scenario, and gives the exit status. It says how far it is where standard
-/// error is a terminal.
+/// Searches the schedules of a scenario, if it has the steps that are to be taken, and gives the exit status.
 fn search<R: Eprint + AllocGlobal + Clock + Threads + Sync, W: Write>(
     rt: &R,
     quest: Quest<'_>,
@@ -132,26 +156,67 @@ fn search<R: Eprint + AllocGlobal + Clock + Threads + Sync, W: Write>(
 ) -> Result<u8, BenchFault>
     requires { output.old.1 < u64.MAX }
 {
-    let options = quest.options;
-    if let Some(count) = lacking(rt.alloc(), options, scenario)? {
-        let _ = eprintln!(rt; "zy_bench: --from: the scenario has {count}");
-        return Ok(COMMAND_LINE);
-    }
+    let outcome = match lacking(rt.alloc(), quest.options, scenario) {
+        Ok(None) => return search_all(rt, quest, sought, scenario, output, is_terminal),
+        Ok(Some(count)) => Ok(tell_lacking(rt, count)),
+        Err(fault) => Err(fault),
+    };
+    drop(sought);
+    outcome
+}
+
+/// Reports on standard error that a scenario has no more choices than these, and gives the exit status.
+fn tell_lacking(rt: &impl Eprint, count: Count) -> u8 {
+    let _ = eprintln!(rt; "zy_bench: --from: the scenario has {count}");
+    COMMAND_LINE
+}
+
+/// Searches the schedules of a scenario, and gives the exit status. It says how far it is where standard
+/// error is a terminal.
+fn search_all<R: Eprint + AllocGlobal + Clock + Threads + Sync, W: Write>(
+    rt: &R,
+    quest: Quest<'_>,
+    sought: Sought,
+    scenario: &[u8],
+    output: &mut PipeSink<W>,
+    is_terminal: bool,
+) -> Result<u8, BenchFault>
+    requires { output.old.1 < u64.MAX }
+{
     let mut progress = Progress::new(rt, is_terminal);
     let question = Question {
         input: scenario,
-        options,
+        options: quest.options,
         sought,
     };
     let searched = search_input(rt, rt.alloc(), question, output, &mut progress);
     progress.clear();
     let report = searched?;
+    let told = tell_answer(rt, quest, scenario, &report, output);
+    drop(report);
+    told
+}
+
+/// Ends the output of a search, reports on standard error what came of it, and gives the exit status.
+fn tell_answer<R: Eprint + AllocGlobal, W: Write>(
+    rt: &R,
+    quest: Quest<'_>,
+    scenario: &[u8],
+    report: &SearchReport,
+    output: &mut PipeSink<W>,
+) -> Result<u8, BenchFault>
+    requires { output.old.1 < u64.MAX }
+{
     flush(output)?;
-    let status = sum_up(rt, &report, quest);
-    if let SearchAnswer::Found(path) = &report.answer {
-        explain_found(rt, options, scenario, path);
-    }
-    Ok(status)
+    sum_up(rt, report, quest);
+    Ok(match &report.answer {
+        SearchAnswer::Found(path) => {
+            explain_found(rt, quest.options, scenario, path);
+            DONE
+        }
+        SearchAnswer::Nowhere => NOWHERE,
+        SearchAnswer::Spent(_) => SPENT,
+    })
 }
 
 /// Writes the positions of a scenario's run at which its state shows what is looked for, and gives the exit status.
@@ -164,9 +229,27 @@ fn find<R: Eprint + AllocGlobal, W: Write>(
 ) -> Result<u8, BenchFault>
     requires { output.old.1 < u64.MAX }
 {
-    let count = find_input(rt.alloc(), format, &sought, scenario, output)?;
+    let found = find_input(rt.alloc(), format, &sought, scenario, output);
+    drop(sought);
+    let count = found?;
     flush(output)?;
     Ok(if count == 0 { NOWHERE } else { DONE })
+}
+
+/// What is looked for, with a warning where its goal names a transaction or a page that the scenario does not have.
+fn warned<R: Eprint + AllocGlobal>(
+    rt: &R,
+    format: Format,
+    scenario: &[u8],
+    sought: Sought,
+) -> Result<Sought, BenchFault> {
+    match warn(rt, format, scenario, named_by(&sought.goal)) {
+        Ok(()) => Ok(sought),
+        Err(fault) => {
+            drop(sought);
+            Err(fault)
+        }
+    }
 }
 
 /// Warns on standard error where a goal names a transaction or a page that the scenario does not have.
@@ -180,10 +263,16 @@ fn warn<R: Eprint + AllocGlobal>(
         return Ok(());
     }
     let machine = make_again(rt.alloc(), format, scenario)?;
+    warn_in(rt, &machine, named);
+    drop(machine);
+    Ok(())
+}
+
+/// Warns of what a machine does not have.
+fn warn_in(rt: &impl Eprint, machine: &Machine, named: Named) {
     warn_of(rt, "transaction", named.txns, machine.txn_count());
     let pages = usize::from(machine.scenario().pages());
     warn_of(rt, "page", named.pages, pages);
-    Ok(())
 }
 
 /// Warns of one of these, of which there are `count`, where it takes `named` of them for the goal to name no others.
@@ -196,13 +285,8 @@ fn warn_of(rt: &impl Eprint, word: &str, named: usize, count: usize) {
     }
 }
 
-/// Reports on standard error what came of a search, and gives the exit status.
-fn sum_up(rt: &impl Eprint, report: &SearchReport, quest: Quest<'_>) -> u8 {
+/// Reports on standard error what came of a search.
+fn sum_up(rt: &impl Eprint, report: &SearchReport, quest: Quest<'_>) {
     let summary = Summary::of(report, quest);
     let _ = eprintln!(rt; "zy_bench: {summary}");
-    match &report.answer {
-        SearchAnswer::Found(_) => DONE,
-        SearchAnswer::Nowhere => NOWHERE,
-        SearchAnswer::Spent(_) => SPENT,
-    }
 }

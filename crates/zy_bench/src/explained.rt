@@ -1,8 +1,10 @@
 //! The order that explains the rows of a run, as standard error names it.
 
 use crate::again::make_again;
+use crate::nothing::tell_number;
+use std::alloc::Global;
 use std::fmt;
-use zy_engine::{Format, SearchOptions};
+use zy_engine::{BenchFault, Format, SearchOptions};
 use zy_isa::{Choice, MAX_CHOICES};
 use zy_machine::{Fault, Machine};
 use zy_serial::explaining::explaining_order;
@@ -12,9 +14,15 @@ use zy_table::CommitRecord;
 /// nothing: the run is over, and its output is out.
 pub fn explain<R: Eprint + AllocGlobal>(rt: &R, machine: &Machine) {
     if let Ok(Some(order)) = explaining_order(rt.alloc(), machine) {
-        let explained = Explained(&order);
-        let _ = eprintln!(rt; "zy_bench: {explained}");
+        tell_order(rt, &order);
+        drop(order);
     }
+}
+
+/// Says on standard error that this order explains the rows.
+fn tell_order(rt: &impl Eprint, order: &[CommitRecord]) {
+    let explained = Explained(order);
+    let _ = eprintln!(rt; "zy_bench: {explained}");
 }
 
 /// Makes choices, as far as the scenario has their transactions and there is room for them.
@@ -32,6 +40,7 @@ pub fn go_on(machine: &mut Machine, choices: &[Choice]) -> Result<(), Fault> {
 pub fn explain_again<R: Eprint + AllocGlobal>(rt: &R, format: Format, scenario: &[u8]) {
     if let Ok(machine) = make_again(rt.alloc(), format, scenario) {
         explain(rt, &machine);
+        drop(machine);
     }
 }
 
@@ -53,6 +62,31 @@ fn go_found(machine: &mut Machine, options: SearchOptions, found: &[Choice]) -> 
     go_on(machine, found)
 }
 
+/// A machine of a scenario that has made no choice.
+fn open_again(alloc: Global, format: Format, scenario: &[u8]) -> Result<Machine, BenchFault> {
+    let run = make_again(alloc, format, scenario)?;
+    let opened = run.reopen(alloc);
+    drop(run);
+    Ok(opened?)
+}
+
+/// The machine of a scenario that has made the choices that a search has found.
+fn found_again(
+    alloc: Global,
+    options: SearchOptions,
+    scenario: &[u8],
+    found: &[Choice],
+) -> Result<Machine, BenchFault> {
+    let mut machine = open_again(alloc, options.format, scenario)?;
+    match go_found(&mut machine, options, found) {
+        Ok(()) => Ok(machine),
+        Err(fault) => {
+            drop(machine);
+            Err(BenchFault::from(fault))
+        }
+    }
+}
+
 /// Makes the choices that a search has found, and says what `explain` says of that run.
 pub fn explain_found<R: Eprint + AllocGlobal>(
     rt: &R,
@@ -60,12 +94,9 @@ pub fn explain_found<R: Eprint + AllocGlobal>(
     scenario: &[u8],
     found: &[Choice],
 ) {
-    if let Ok(run) = make_again(rt.alloc(), options.format, scenario) {
-        if let Ok(mut machine) = run.reopen(rt.alloc()) {
-            if go_found(&mut machine, options, found).is_ok() {
-                explain(rt, &machine);
-            }
-        }
+    if let Ok(machine) = found_again(rt.alloc(), options, scenario, found) {
+        explain(rt, &machine);
+        drop(machine);
     }
 }
 
@@ -77,7 +108,7 @@ impl fmt::Display for Explained<'_> {
     fn fmt<W: fmt::Write>(&self, f: &mut fmt::Formatter<W>) -> fmt::Result {
         let mut between = "the rows are those of ";
         for commit in self.0 {
-            write!(f, "{between}{}", commit.txn)?;
+            tell_number(f, between, usize::from(commit.txn))?;
             between = ", ";
         }
         f.write_str(" in this order: in each migration who committed at the source comes first")

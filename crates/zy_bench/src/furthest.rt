@@ -1,6 +1,6 @@
 //! How far an order of logs comes, and what the table gives where the next lines do not fit.
 
-use crate::again::make_again;
+use crate::again::{make_again, scenario_part};
 use crate::excerpt::Excerpt;
 use crate::explained::go_on;
 use crate::origin::Origin;
@@ -116,16 +116,19 @@ impl Furthest {
         order: &[Choice],
         taken: Taken,
     ) -> Result<Furthest, BenchFault> {
-        let (text, below) = split_scenario(input);
-        let mut machine = make_again(alloc, Format::Text, text)?;
-        let lines = lines_again(alloc, options, &machine, text, below)?;
-        go_on(&mut machine, order)?;
-        Ok(Furthest {
-            machine,
-            logs: options.logs,
-            lines,
-            taken: Counts::taken(taken),
-        })
+        let mut machine = make_again(alloc, Format::Text, scenario_part(input))?;
+        match go_furthest(alloc, options, &mut machine, input, order) {
+            Ok(lines) => Ok(Furthest {
+                machine,
+                logs: options.logs,
+                lines,
+                taken: Counts::taken(taken),
+            }),
+            Err(fault) => {
+                drop(machine);
+                Err(fault)
+            }
+        }
     }
 
     /// How many lines of each actor it takes, of how many.
@@ -153,7 +156,9 @@ impl Furthest {
     /// The step that comes at its end of the choice of a line that does not fit there.
     fn instead(&self, alloc: Global, line: LogLine) -> Result<Option<Entry>, Fault> {
         let mut machine = self.machine.copy(alloc)?;
-        disagreeing(&mut machine, line)
+        let entry = disagreeing(&mut machine, line);
+        drop(machine);
+        entry
     }
 
     /// The first line of the client that does not fit where those before it are made behind its end, on a machine that is there,
@@ -177,22 +182,39 @@ impl Furthest {
     pub fn tell<R: Eprint + AllocGlobal>(&self, rt: &R, file: Option<&str>, input: &[u8]) {
         let mut is_named = false;
         for actor in [Actor::C, Actor::A, Actor::B] {
-            if let Some(next) = self.next(actor) {
-                if let Ok(Some(entry)) = self.instead(rt.alloc(), next.step) {
-                    is_named = true;
-                    self.tell_line(rt, file, input, next, &entry);
-                }
-            }
+            is_named |= self.tell_next(rt, file, input, actor);
         }
         if !is_named {
             self.tell_later(rt, file, input);
         }
     }
 
+    /// Says what the table gives in the place of the next line of an actor, and whether there is one that does not fit.
+    fn tell_next<R: Eprint + AllocGlobal>(
+        &self,
+        rt: &R,
+        file: Option<&str>,
+        input: &[u8],
+        actor: Actor,
+    ) -> bool {
+        let Some(next) = self.next(actor) else {
+            return false;
+        };
+        match self.instead(rt.alloc(), next.step) {
+            Ok(Some(entry)) => {
+                self.tell_line(rt, file, input, next, &entry);
+                true
+            }
+            _ => false,
+        }
+    }
+
     /// Says what the table gives in the place of the first line of the client that does not fit behind the others.
     fn tell_later<R: Eprint + AllocGlobal>(&self, rt: &R, file: Option<&str>, input: &[u8]) {
         if let Ok(mut machine) = self.machine.copy(rt.alloc()) {
-            if let Ok(Some((line, entry))) = self.later(&mut machine) {
+            let later = self.later(&mut machine);
+            drop(machine);
+            if let Ok(Some((line, entry))) = later {
                 self.tell_line(rt, file, input, line, &entry);
             }
         }
@@ -208,18 +230,24 @@ impl Furthest {
         entry: &Entry,
     ) {
         if let Ok(step) = step_line(rt.alloc(), entry) {
-            let source = SourceLine::of(input, line.number);
             let unfit = Unfit {
                 file,
                 number: line.number,
-                bytes: match self.logs {
-                    LogFormat::Text => source.statement().bytes,
-                    LogFormat::Json => source.bytes,
-                },
+                bytes: told_bytes(self.logs, input, line.number),
                 came: behind_arrow(step.as_bytes()),
             };
-            let _ = eprintln!(rt; "{unfit}");
+            unfit.tell(rt);
+            drop(step);
         }
+    }
+}
+
+/// What a line of an input says: its bytes, of a text without the comment.
+fn told_bytes(logs: LogFormat, input: &[u8], number: usize) -> &[u8] {
+    let source = SourceLine::of(input, number);
+    match logs {
+        LogFormat::Text => source.statement().bytes,
+        LogFormat::Json => source.bytes,
     }
 }
 
@@ -234,6 +262,19 @@ fn disagreeing(machine: &mut Machine, line: LogLine) -> Result<Option<Entry>, Fa
         return Ok(None);
     }
     Ok(Some(entry))
+}
+
+/// Makes these choices too on a machine that has made those of an input's scenario, and gives the lines of the logs below it.
+fn go_furthest(
+    alloc: Global,
+    options: OrderOptions,
+    machine: &mut Machine,
+    input: &[u8],
+    order: &[Choice],
+) -> Result<Vec<NumberedLine>, BenchFault> {
+    go_on(machine, order)?;
+    let (text, below) = split_scenario(input);
+    lines_again(alloc, options, machine, text, below)
 }
 
 /// The lines of the logs that are below a machine's scenario.
@@ -295,12 +336,12 @@ impl Steps {
 
 impl fmt::Display for Steps {
     fn fmt<W: fmt::Write>(&self, f: &mut fmt::Formatter<W>) -> fmt::Result {
-        let lines = Count::of(self.lines, "line");
+        fmt::Display::fmt(&Count::of(self.lines, "line"), f)?;
         if self.missing == 0 {
-            return write!(f, "{lines}");
+            return Ok(());
         }
-        let missing = Count::of(self.missing, "missing step");
-        write!(f, "{lines} and {missing}")
+        f.write_str(" and ")?;
+        fmt::Display::fmt(&Count::of(self.missing, "missing step"), f)
     }
 }
 
@@ -332,23 +373,40 @@ struct Unfit<'a> {
     came: &'a [u8],
 }
 
+impl<'a> Unfit<'a> {
+    /// Says it on standard error.
+    fn tell(&self, rt: &impl Eprint) {
+        let _ = eprintln!(rt; "{self}");
+    }
+
+    /// Writes the line, and what the table gives there.
+    fn tell_table<W: fmt::Write>(&self, f: &mut fmt::Formatter<W>) -> fmt::Result {
+        let told = Excerpt::of(self.bytes.trim_ascii(), 0);
+        let came = Excerpt::of(self.came, 0);
+        write!(f, " {told}: the table gives {came} there")
+    }
+
+    /// Where the line is: in a file the first byte of it that is no space.
+    fn origin(&self) -> Origin<'a> {
+        let Some(file) = self.file else {
+            return Origin::Line(self.number);
+        };
+        let told = self.bytes.trim_ascii_start();
+        let before = self.bytes.len().saturating_sub(told.len());
+        Origin::Place(
+            file,
+            Position {
+                line: self.number,
+                column: before.saturating_add(1),
+            },
+        )
+    }
+}
+
 impl fmt::Display for Unfit<'_> {
     fn fmt<W: fmt::Write>(&self, f: &mut fmt::Formatter<W>) -> fmt::Result {
-        let Unfit { number, bytes, .. } = *self;
-        let told = bytes.trim_ascii();
-        match self.file {
-            Some(file) => {
-                let before = bytes.len().saturating_sub(bytes.trim_ascii_start().len());
-                let column = before.saturating_add(1);
-                let position = Position {
-                    line: number,
-                    column,
-                };
-                write!(f, "{}:", Origin::Place(file, position))?;
-            }
-            None => write!(f, "{}", Origin::Line(number))?,
-        }
-        let (told, came) = (Excerpt::of(told, 0), Excerpt::of(self.came, 0));
-        write!(f, " {told}: the table gives {came} there")
+        fmt::Display::fmt(&self.origin(), f)?;
+        f.write_str(if self.file.is_some() { ":" } else { "" })?;
+        self.tell_table(f)
     }
 }

@@ -96,7 +96,7 @@ impl<F: Read + Drop, S: Read> Read for Given<F, S> {
 }
 
 /// Why an input could not be opened or read.
-#[derive(Clone, Copy, Debug, PartialEq, Eq)]
+#[derive(Clone, Copy)]
 pub struct Failure {
     cause: Cause,
     /// Whether it is of a file, and not of standard input.
@@ -104,7 +104,7 @@ pub struct Failure {
 }
 
 /// What is the matter with an input.
-#[derive(Clone, Copy, Debug, PartialEq, Eq)]
+#[derive(Clone, Copy)]
 enum Cause {
     /// There is no such file.
     Missing,

@@ -1,9 +1,11 @@
 //! The furthest order of logs, which is kept in a file.
+ghost use Rattle.std.specs.Prelude.{◌<◌};
 
 use crate::origin::Origin;
 use crate::output::{PipeSink, flush};
+use std::alloc::Global;
 use std::fs;
-use std::io::BufWriter;
+use std::io::{BufWriter, Write};
 use std::rt::Files;
 use zy_engine::{BenchFault, Wording};
 use zy_isa::Choice;
@@ -55,14 +57,40 @@ impl Keeper<'_> {
         input: &[u8],
         order: &[Choice],
     ) -> Result<(), BenchFault> {
-        let Ok(file) = fs::create(rt, self.path) else {
-            return Err(BenchFault::Write);
-        };
-        let Ok(buffer) = BufWriter::new(rt.alloc(), file) else {
+        match fs::create(rt, self.path) {
+            Ok(file) => self.write_to(rt.alloc(), file, input, order),
+            Err(_) => Err(BenchFault::Write),
+        }
+    }
+
+    /// Writes it to a file that is open.
+    fn write_to<F: Write + Drop>(
+        self,
+        alloc: Global,
+        file: F,
+        input: &[u8],
+        order: &[Choice],
+    ) -> Result<(), BenchFault> {
+        let Ok(buffer) = BufWriter::new(alloc, file) else {
             return Err(BenchFault::Memory);
         };
         let mut output = PipeSink::new(buffer);
-        write_behind(rt.alloc(), self.wording, input, order, &mut output)?;
-        flush(&mut output)
+        let written = self.write_through(alloc, input, order, &mut output);
+        drop(output);
+        written
+    }
+
+    /// Writes it, and passes on what is kept back.
+    fn write_through<W: Write>(
+        self,
+        alloc: Global,
+        input: &[u8],
+        order: &[Choice],
+        output: &mut PipeSink<W>,
+    ) -> Result<(), BenchFault>
+        requires { output.old.1 < u64.MAX }
+    {
+        write_behind(alloc, self.wording, input, order, output)?;
+        flush(output)
     }
 }

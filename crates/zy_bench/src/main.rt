@@ -1,7 +1,7 @@
 //! `zy_bench`: runs transaction programs on a migrating store under any schedule.
 #![tactic(auto)]
 
-ghost use Rattle.std.specs.Prelude.{◌<◌};
+ghost use Rattle.std.specs.Prelude.{◌<◌, OnOk};
 
 mod advised;
 mod again;
@@ -31,8 +31,10 @@ mod tally;
 use advised::{Advised, InputRead};
 use again::{line_due, scenario_part};
 use answering::{Asked, answer};
+use clap::ArgMatches;
 use clap::error::ErrorKind;
-use command_line::{Checkpoints, Conversion, Request, Task, command, request_of};
+use command_line::command;
+use command_line::request::{Checkpoints, Conversion, Request, Shown, Task, request_of};
 use commands::Commands;
 use excerpt::Differing;
 use exit_status::{COMMAND_LINE, DONE, NOT_TABLE};
@@ -43,22 +45,22 @@ use nothing::Nothing;
 use ordering::{Asker, order};
 use origin::Origin;
 use output::{PipeSink, flush};
+use std::alloc::Global;
 use std::io::{BufWriter, IsTerminal, Read, Write};
 use std::process::ExitCode;
-use std::rt::Files;
+use std::rt::{Env, Files};
 use std::sync::Wait;
 use std::thread::Threads;
 use std::time::Clock;
 use std::{fs, io};
 use zy_check::Verdict;
-use zy_diagnostics::CommandName as Reader;
 use zy_diagnostics::line::whole_line;
 use zy_engine::checking::check_bytes;
 use zy_engine::debugging::{MAX_EVERY, MAX_RING, debug_bytes};
 use zy_engine::engine::{convert_bytes, run_bytes};
 use zy_engine::threading::threads_bytes;
 use zy_engine::{BenchFault, Format, RunFormat, SourceFormat};
-use zy_io::CountingReader;
+use zy_io::{CountingReader, Source};
 use zy_machine::Machine;
 use zy_text::cut::cut_len;
 use zy_threads::FreeGate;
@@ -98,27 +100,56 @@ fn convert<R: Eprint + AllocGlobal + Threads + Wait + Sync, G: Read, W: Write>(
     requires { output.old.1 < u64.MAX }
 {
     let source = &mut CountingReader::new(given);
-    let alloc = rt.alloc();
     match conversion {
-        Conversion::Run(shown, format) => {
-            let machine = run_bytes(alloc, format, shown, source, output, input)?;
-            close_run(rt, &machine, output)
-        }
-        Conversion::Threads(format) => {
-            let gate = &FreeGate;
-            let machine = threads_bytes(rt, alloc, format, source, output, input, gate)?;
-            close_run(rt, &machine, output)
-        }
+        Conversion::Run(shown, format) => run(rt, shown, format, source, input, output),
         Conversion::Asm => {
             let image = SourceFormat::Image;
-            convert_bytes(alloc, Format::Text, image, source, output, input)?;
+            convert_bytes(rt.alloc(), Format::Text, image, source, output, input)?;
             close(output)
         }
         Conversion::Dis => {
             let text = SourceFormat::Text;
-            convert_bytes(alloc, Format::Image, text, source, output, input)?;
+            convert_bytes(rt.alloc(), Format::Image, text, source, output, input)?;
             close(output)
         }
+    }
+}
+
+/// Makes a run, shows it, and gives the exit status.
+fn run<R: Eprint + AllocGlobal + Threads + Wait + Sync, S: Source, W: Write>(
+    rt: &R,
+    shown: Shown,
+    format: Format,
+    source: &mut S,
+    input: &mut Vec<u8>,
+    output: &mut PipeSink<W>,
+) -> Result<u8, BenchFault>
+    requires source { S.failures source.old < u64.MAX }
+    requires output { output.old.1 < u64.MAX }
+{
+    let machine = shown_run(rt, shown, format, source, input, output)?;
+    let status = close_run(rt, &machine, output);
+    drop(machine);
+    status
+}
+
+/// Makes a run, shows it, and gives the machine that has made it.
+fn shown_run<R: AllocGlobal + Threads + Wait + Sync, S: Source, W: Write>(
+    rt: &R,
+    shown: Shown,
+    format: Format,
+    source: &mut S,
+    input: &mut Vec<u8>,
+    output: &mut PipeSink<W>,
+) -> Result<Machine, BenchFault>
+    requires source { S.failures source.old < u64.MAX }
+    requires output { output.old.1 < u64.MAX }
+    ensures { OnOk result (output.new.1 < u64.MAX) }
+{
+    let alloc = rt.alloc();
+    match shown {
+        Shown::Alone(shown) => run_bytes(alloc, format, shown, source, output, input),
+        Shown::ByThreads => threads_bytes(rt, alloc, format, source, output, input, &FreeGate),
     }
 }
 
@@ -154,11 +185,27 @@ fn check<R: Eprint + AllocGlobal, G: Read, W: Write>(
         }
         Verdict::NotTable(line) => {
             let due = line_due(rt.alloc(), listing, line)?;
-            flush(output)?;
-            show(rt, file, listing, line, due.line());
-            Ok(NOT_TABLE)
+            let status = close_differing(rt, file, listing, line, due.line(), output);
+            drop(due);
+            status
         }
     }
+}
+
+/// Ends a check of an input that is not the listing, shows the line at which it is not, and gives the exit status.
+fn close_differing<R: Eprint, W: Write>(
+    rt: &R,
+    file: Option<&str>,
+    input: &[u8],
+    line: usize,
+    due: &[u8],
+    output: &mut PipeSink<W>,
+) -> Result<u8, BenchFault>
+    requires { output.old.1 < u64.MAX }
+{
+    flush(output)?;
+    show(rt, file, input, line, due);
+    Ok(NOT_TABLE)
 }
 
 /// Answers the commands that are given below a scenario, and gives the exit status.
@@ -236,24 +283,6 @@ fn unprinted(error: &io::Error) -> BenchFault {
     }
 }
 
-/// The command that a task is of.
-fn command_of(task: Task<'_>) -> Reader {
-    match task {
-        Task::Convert(Conversion::Run(shown, _)) => match shown {
-            RunFormat::Listing | RunFormat::Objects => Reader::Run,
-            RunFormat::Trace | RunFormat::TracedObjects => Reader::Trace,
-        },
-        Task::Convert(Conversion::Threads(_)) => Reader::Threads,
-        Task::Convert(Conversion::Asm) => Reader::Asm,
-        Task::Convert(Conversion::Dis) => Reader::Dis,
-        Task::Check => Reader::Check,
-        Task::Debug(_) => Reader::Debug,
-        Task::Search(_) => Reader::Search,
-        Task::Find(_) => Reader::Find,
-        Task::Order(_) => Reader::Order,
-    }
-}
-
 /// What a request is given to read: its file, else standard input; for `debug` standard input is below the file.
 fn open<R: Input + Files>(
     rt: &R,
@@ -289,41 +318,85 @@ fn carry_out<R: Print + Eprint + Input + Files + AllocGlobal + Clock + Threads +
         return tell(rt, BenchFault::Memory);
     };
     let mut output = PipeSink::new(buffer);
+    let status = write_answer(rt, request, is_terminal, &mut output);
+    drop(output);
+    status
+}
+
+/// Opens what a request reads, carries it out, and gives the exit status.
+fn write_answer<R: Eprint + Input + Files + AllocGlobal + Clock + Threads + Wait + Sync, W: Write>(
+    rt: &R,
+    request: Request<'_>,
+    is_terminal: bool,
+    output: &mut PipeSink<W>,
+) -> u8
+    requires { output.old.1 < u64.MAX }
+{
+    match open(rt, request) {
+        Ok(mut given) => {
+            let status = answer_given(rt, request, is_terminal, &mut given, output);
+            drop(given);
+            status
+        }
+        Err(failure) => unopened(rt, request.file, failure),
+    }
+}
+
+/// Carries a request out on what it is given to read, and gives the exit status.
+fn answer_given<
+    R: Eprint + Files + AllocGlobal + Clock + Threads + Wait + Sync,
+    F: Read + Drop,
+    S: Read,
+    W: Write,
+>(
+    rt: &R,
+    request: Request<'_>,
+    is_terminal: bool,
+    given: &mut Given<F, S>,
+    output: &mut PipeSink<W>,
+) -> u8
+    requires { output.old.1 < u64.MAX }
+{
     let mut input = Vec::new(rt.alloc());
-    let Request { task, file } = request;
-    let mut given = match open(rt, request) {
-        Ok(given) => given,
-        Err(failure) => return unopened(rt, file, failure),
-    };
-    let outcome = match task {
-        Task::Convert(conversion) => convert(rt, conversion, &mut given, &mut input, &mut output),
-        Task::Check => check(rt, file, &mut given, &mut input, &mut output),
-        Task::Debug(checkpoints) => {
-            debug(rt, checkpoints, file, &mut given, &mut input, &mut output)
-        }
-        Task::Search(quest) => {
-            let asked = Asked::Schedule { is_terminal };
-            answer(rt, asked, quest, &mut given, &mut input, &mut output)
-        }
-        Task::Find(quest) => {
-            answer(
-                rt,
-                Asked::Positions,
-                quest,
-                &mut given,
-                &mut input,
-                &mut output,
-            )
-        }
-        Task::Order(quest) => {
-            let asker = Asker { file, is_terminal };
-            order(rt, quest, asker, &mut given, &mut input, &mut output)
-        }
-    };
-    match outcome {
+    let status = match perform(rt, request, is_terminal, given, &mut input, output) {
         Ok(status) => status,
         Err(BenchFault::Write) if output.is_unread() => BenchFault::Write.status(),
-        Err(fault) => advise(rt, reading_of(request, &given, input.as_slice()), fault),
+        Err(fault) => advise(rt, reading_of(request, given, input.as_slice()), fault),
+    };
+    drop(input);
+    status
+}
+
+/// Performs the task of a request, and gives the exit status.
+fn perform<
+    R: Eprint + Files + AllocGlobal + Clock + Threads + Wait + Sync,
+    F: Read + Drop,
+    S: Read,
+    W: Write,
+>(
+    rt: &R,
+    request: Request<'_>,
+    is_terminal: bool,
+    given: &mut Given<F, S>,
+    input: &mut Vec<u8>,
+    output: &mut PipeSink<W>,
+) -> Result<u8, BenchFault>
+    requires { output.old.1 < u64.MAX }
+{
+    let file = request.file;
+    match request.task {
+        Task::Convert(conversion) => convert(rt, conversion, given, input, output),
+        Task::Check => check(rt, file, given, input, output),
+        Task::Debug(checkpoints) => debug(rt, checkpoints, file, given, input, output),
+        Task::Search(quest) => {
+            let asked = Asked::Schedule { is_terminal };
+            answer(rt, asked, quest, given, input, output)
+        }
+        Task::Find(quest) => answer(rt, Asked::Positions, quest, given, input, output),
+        Task::Order(quest) => {
+            let asker = Asker { file, is_terminal };
+            order(rt, quest, asker, given, input, output)
+        }
     }
 }
 
@@ -338,7 +411,7 @@ fn reading_of<'a, F: Drop, S>(
         _ => None,
     };
     InputRead {
-        command: command_of(request.task),
+        command: request.command,
         file: request.file,
         lines,
         bytes,
@@ -353,42 +426,81 @@ fn advise(rt: &impl Eprint, reading: InputRead<'_>, fault: BenchFault) -> u8 {
     fault.status()
 }
 
+/// What these words say.
+fn parse<'a>(alloc: Global, words: &'a [String]) -> Result<ArgMatches<'a>, clap::Error> {
+    command(alloc)?.try_get_matches_from(words)
+}
+
 /// The exit status of a run with these words, where standard error may be a terminal.
-fn status<'a>(
-    rt: &(impl Print + Eprint + Input + Files + AllocGlobal + Clock + Threads + Wait + Sync),
+fn status<'a, R: Print + Eprint + Input + Files + AllocGlobal + Clock + Threads + Wait + Sync>(
+    rt: &R,
     words: &'a [String],
     is_terminal: bool,
 ) -> u8 {
-    let Ok(command) = command(rt.alloc()) else {
-        return tell(rt, BenchFault::Memory);
-    };
-    match command.try_get_matches_from(words) {
-        Ok(matches) => match request_of(&matches) {
-            Some(request) => carry_out(rt, request, is_terminal),
-            None => COMMAND_LINE,
-        },
+    match parse(rt.alloc(), words) {
+        Ok(matches) => {
+            let status = obey(rt, &matches, is_terminal);
+            drop(matches);
+            status
+        }
         Err(said) => {
-            if said.kind() == ErrorKind::OutOfMemory {
-                return tell(rt, BenchFault::Memory);
-            }
-            let status = say(rt, &said);
-            if let Some(hint) = Hint::of(said.kind(), words) {
-                let _ = eprintln!(rt; "zy_bench: {hint}");
-            }
+            let status = refuse(rt, &said, words);
+            drop(said);
             status
         }
     }
 }
 
-fn main(rt: HostRuntime) -> ExitCode {
-    let args = match std::env::args(&rt) {
-        Ok(args) => args,
-        Err(error) => return ExitCode::from(no_words(&rt, &error)),
-    };
-    let is_terminal = rt.stderr().is_terminal();
-    let words: Result<Vec<String>, _> = args.collect(rt.alloc());
-    match words {
-        Ok(words) => ExitCode::from(status(&rt, words.as_slice(), is_terminal)),
-        Err(_) => ExitCode::from(tell(&rt, BenchFault::Memory)),
+/// Carries out what was asked for, and gives the exit status.
+fn obey<R: Print + Eprint + Input + Files + AllocGlobal + Clock + Threads + Wait + Sync>(
+    rt: &R,
+    matches: &ArgMatches<'_>,
+    is_terminal: bool,
+) -> u8 {
+    match request_of(matches) {
+        Some(request) => carry_out(rt, request, is_terminal),
+        None => COMMAND_LINE,
     }
+}
+
+/// Prints what there is in place of matches, and a hint, and gives the exit status.
+fn refuse<'a>(rt: &(impl Print + Eprint), said: &clap::Error, words: &'a [String]) -> u8 {
+    if said.kind() == ErrorKind::OutOfMemory {
+        return tell(rt, BenchFault::Memory);
+    }
+    let status = say(rt, said);
+    if let Some(hint) = Hint::of(said.kind(), words) {
+        let _ = eprintln!(rt; "zy_bench: {hint}");
+    }
+    status
+}
+
+/// The exit status of a run with the words that it was started with, where standard error may be a terminal.
+fn run_words<R: Print + Eprint + Input + Env + Files + AllocGlobal + Clock + Threads + Wait + Sync>(
+    rt: &R,
+    is_terminal: bool,
+) -> u8 {
+    match std::env::args(rt) {
+        Ok(args) => match args.collect(rt.alloc()) {
+            Ok(words) => run_of(rt, words, is_terminal),
+            Err(_) => tell(rt, BenchFault::Memory),
+        },
+        Err(error) => no_words(rt, &error),
+    }
+}
+
+/// The exit status of a run with words that end with it.
+fn run_of<R: Print + Eprint + Input + Files + AllocGlobal + Clock + Threads + Wait + Sync>(
+    rt: &R,
+    words: Vec<String>,
+    is_terminal: bool,
+) -> u8 {
+    let status = status(rt, words.as_slice(), is_terminal);
+    drop(words);
+    status
+}
+
+fn main(rt: HostRuntime) -> ExitCode {
+    let is_terminal = rt.stderr().is_terminal();
+    ExitCode::from(run_words(&rt, is_terminal))
 }

@@ -1,6 +1,6 @@
 //! Why the text of a goal is refused.
 
-use crate::command_line::Quest;
+use crate::command_line::request::Quest;
 use std::fmt;
 use zy_diagnostics::line::SourceWord;
 use zy_diagnostics::place::MarkedWord;

@@ -7,7 +7,7 @@ use zy_machine::Machine;
 use zy_table::Outcome;
 
 /// Why nothing came of the steps of a transaction.
-#[derive(Clone, Copy, Debug, PartialEq, Eq)]
+#[derive(Clone, Copy, PartialEq, Eq)]
 pub enum Cause {
     /// It was not begun.
     NotBegun,
@@ -135,7 +135,7 @@ impl fmt::Display for Stalled {
 }
 
 /// Writes a number behind what is between it and the one before.
-fn tell_number<W: fmt::Write>(
+pub fn tell_number<W: fmt::Write>(
     f: &mut fmt::Formatter<W>,
     between: &'static str,
     number: usize,

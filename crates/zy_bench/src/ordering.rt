@@ -1,7 +1,7 @@
 //! The command `order`: logs are read, and an order of them is looked for.
 ghost use Rattle.std.specs.Prelude.{◌<◌};
 
-use crate::command_line::LogQuest;
+use crate::command_line::request::LogQuest;
 use crate::exit_status::{DONE, NOWHERE, SPENT};
 use crate::furthest::{Furthest, Steps};
 use crate::keeping::Keeper;
@@ -10,6 +10,7 @@ use crate::progress::Progress;
 use crate::refused_line::RefusedLine;
 use crate::refused_object::{RefusedObject, ToldLine};
 use crate::summary::Count;
+use std::fmt;
 use std::io::{Read, Write};
 use std::rt::Files;
 use std::time::Clock;
@@ -55,21 +56,49 @@ pub fn order<R: Eprint + Files + AllocGlobal + Clock, G: Read, W: Write>(
     progress.clear();
     match ordered {
         Ok(report) => {
-            flush(output)?;
-            let status = sum_up(rt, quest, file, input.as_slice(), &report)?;
-            Ok(kept(rt, quest, input.as_slice(), &report.answer).unwrap_or(status))
+            let told = tell_report(rt, quest, file, input.as_slice(), &report, output);
+            drop(report);
+            told
         }
-        Err(OrderFault::Bench(fault)) => Err(fault),
-        Err(OrderFault::Log(refusal)) => {
-            tell_refused(rt, quest.options.logs, file, input.as_slice(), refusal)?;
-            Ok(OrderFault::Log(refusal).status())
-        }
-        Err(OrderFault::Json(refusal)) => {
-            let refused = RefusedObject::of(file, input.as_slice(), refusal);
-            let _ = eprintln!(rt; "{refused}");
-            Ok(OrderFault::Json(refusal).status())
-        }
+        Err(fault) => refuse(rt, quest.options.logs, file, input.as_slice(), fault),
     }
+}
+
+/// Ends the output of a search for an order, reports what came of it, and gives the exit status.
+fn tell_report<R: Eprint + Files + AllocGlobal, W: Write>(
+    rt: &R,
+    quest: LogQuest<'_>,
+    file: Option<&str>,
+    input: &[u8],
+    report: &OrderReport,
+    output: &mut PipeSink<W>,
+) -> Result<u8, BenchFault>
+    requires { output.old.1 < u64.MAX }
+{
+    flush(output)?;
+    let status = sum_up(rt, quest, file, input, report)?;
+    Ok(kept(rt, quest, input, &report.answer).unwrap_or(status))
+}
+
+/// Says on standard error why a line of an input is none of a log, and gives the exit status; another fault is given back.
+fn refuse<R: Eprint + AllocGlobal>(
+    rt: &R,
+    logs: LogFormat,
+    file: Option<&str>,
+    input: &[u8],
+    fault: OrderFault,
+) -> Result<u8, BenchFault> {
+    match fault {
+        OrderFault::Bench(fault) => return Err(fault),
+        OrderFault::Log(refusal) => tell_refused(rt, logs, file, input, refusal)?,
+        OrderFault::Json(refusal) => tell(rt, RefusedObject::of(file, input, refusal)),
+    }
+    Ok(fault.status())
+}
+
+/// Says something on standard error.
+fn tell<D: fmt::Display + Drop>(rt: &impl Eprint, said: D) {
+    let _ = eprintln!(rt; "{said}");
 }
 
 /// Says on standard error why a line of an input, or the line of a log that it tells, is none of a log.
@@ -81,14 +110,11 @@ fn tell_refused<R: Eprint + AllocGlobal>(
     refusal: LogLineFault,
 ) -> Result<(), BenchFault> {
     match logs {
-        LogFormat::Text => {
-            let refused = RefusedLine::of(file, input, refusal);
-            let _ = eprintln!(rt; "{refused}");
-        }
+        LogFormat::Text => tell(rt, RefusedLine::of(file, input, refusal)),
         LogFormat::Json => {
             let told = ToldLine::of(rt.alloc(), input, refusal.line)?;
-            let refused = told.refused(file, refusal);
-            let _ = eprintln!(rt; "{refused}");
+            tell(rt, told.refused(file, refusal));
+            drop(told);
         }
     }
     Ok(())
@@ -116,30 +142,49 @@ fn sum_up<R: Eprint + AllocGlobal>(
     input: &[u8],
     report: &OrderReport,
 ) -> Result<u8, BenchFault> {
+    let (order, words, status) = match &report.answer {
+        OrderAnswer::Found(order) => return Ok(found(rt, report, order.len())),
+        OrderAnswer::Nowhere(order) => (order, NO_ORDER, NOWHERE),
+        OrderAnswer::Spent(order) => (order, GAVE_UP, SPENT),
+    };
+    let furthest = Furthest::of(rt.alloc(), quest.options, input, order, report.taken)?;
+    tell_furthest(rt, words, report, &furthest);
+    furthest.tell(rt, file, input);
+    drop(furthest);
+    Ok(status)
+}
+
+/// Reports that an order was found, which makes this number of choices, and gives the exit status.
+fn found(rt: &impl Eprint, report: &OrderReport, choices: usize) -> u8 {
     let states = Count::of(report.states, "state");
-    match &report.answer {
-        OrderAnswer::Found(order) => {
-            let steps = Steps::of(report.taken, order.len());
-            let _ = eprintln!(rt; "zy_bench: found after {states}: an order of {steps}");
-            Ok(DONE)
-        }
-        OrderAnswer::Nowhere(order) => {
-            let furthest = Furthest::of(rt.alloc(), quest.options, input, order, report.taken)?;
-            let reach = furthest.reach();
-            let _ = eprintln!(rt;
-                "zy_bench: there is no order, after {states}: the furthest takes {reach}"
-            );
-            furthest.tell(rt, file, input);
-            Ok(NOWHERE)
-        }
-        OrderAnswer::Spent(order) => {
-            let furthest = Furthest::of(rt.alloc(), quest.options, input, order, report.taken)?;
-            let reach = furthest.reach();
-            let _ = eprintln!(rt;
-                "zy_bench: gave up after {states}: no order was found, and the furthest that was tried takes {reach}"
-            );
-            furthest.tell(rt, file, input);
-            Ok(SPENT)
-        }
-    }
+    let steps = Steps::of(report.taken, choices);
+    let _ = eprintln!(rt; "zy_bench: found after {states}: an order of {steps}");
+    DONE
+}
+
+/// What is said where no order is found: in front of the number of states, and behind it.
+#[derive(Clone, Copy)]
+struct NotFound {
+    end: &'static str,
+    furthest: &'static str,
+}
+
+/// There is no order.
+const NO_ORDER: NotFound = NotFound {
+    end: "there is no order,",
+    furthest: "the furthest takes",
+};
+
+/// The search came to no end.
+const GAVE_UP: NotFound = NotFound {
+    end: "gave up",
+    furthest: "no order was found, and the furthest that was tried takes",
+};
+
+/// Reports that no order was found, and how far the furthest comes.
+fn tell_furthest(rt: &impl Eprint, words: NotFound, report: &OrderReport, to: &Furthest) {
+    let NotFound { end, furthest } = words;
+    let states = Count::of(report.states, "state");
+    let reach = to.reach();
+    let _ = eprintln!(rt; "zy_bench: {end} after {states}: {furthest} {reach}");
 }

@@ -1,6 +1,6 @@
 //! What a search says at its end.
 
-use crate::command_line::Quest;
+use crate::command_line::request::Quest;
 use std::fmt;
 use zy_search::{ChoiceKinds, SearchAnswer, SearchReport};
 
