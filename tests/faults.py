@@ -485,7 +485,7 @@ PROGRAM_FAULTS = [
             'self.command == CommandName::Order', '(self.command == CommandName::Order || is_of_words)', '^mistake: run: ', 'run'),
     program(3, 'an arrow of a line is shown as a byte that does not print', 'zy_diagnostics/src/place.rt', 'has_lone_marks: false', 'has_lone_marks: true',
             '^order-refused:', 'run'),
-    program(7, 'order says of several files what run says', 'zy_bench/src/hint.rt', '"order" => Hint::OneInput', '"odder" => Hint::OneInput', '^mistake: order a b: ', 'run'),
+    program(7, 'order says of several files what run says', 'zy_bench/src/hint.rt', 'Some(CommandName::Order) => Hint', 'Some(CommandName::Find) => Hint', '^mistake: order a b: ', 'run'),
     program(5, 'a word of a goal is shown as a mark', 'zy_diagnostics/src/place.rt', 'has_lone_marks: true', 'has_lone_marks: false', '^key 10 <> 5: ', 'searches'),
     program(6, '--furthest ignored', COMMAND_LINE, 'furthest: words.get_str("furthest")', 'furthest: words.get_str("furthest").filter(|_| false)',
             "^order .'--furthest'", 'files'),

@@ -44,7 +44,7 @@ fn subcommand<'a>(alloc: Global, name: CommandName) -> Result<Command<'a>, Alloc
 
 /// A command without its arguments.
 fn bare<'a>(alloc: Global, described: Described) -> Command<'a> {
-    Command::new(alloc, described.word)
+    Command::new(alloc, described.name.word())
         .about(described.about)
         .after_help(described.below)
 }

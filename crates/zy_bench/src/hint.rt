@@ -1,8 +1,9 @@
 //! What to write in place of a command line that is not understood.
 
+use crate::command_line::table::command_of;
 use clap::error::ErrorKind;
 use std::fmt;
-use zy_diagnostics::Bytes;
+use zy_diagnostics::{Bytes, CommandName};
 use zy_engine::debugging::{MAX_EVERY, MAX_RING};
 use zy_isa::MAX_CHOICES;
 use zy_search::MOST_THREADS;
@@ -79,8 +80,8 @@ impl<'a> Hint<'a> {
 
     /// What was meant by several files behind this command.
     fn of_files(command: &'a str) -> Hint<'a> {
-        match command {
-            "order" => Hint::OneInput,
+        match command_of(command) {
+            Some(CommandName::Order) => Hint::OneInput,
             _ => Hint::OneFile(command),
         }
     }

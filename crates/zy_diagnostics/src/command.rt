@@ -17,10 +17,10 @@ pub enum CommandName {
     Debug,
 }
 
-/// Its word on the command line.
-impl fmt::Display for CommandName {
-    fn fmt<W: fmt::Write>(&self, f: &mut fmt::Formatter<W>) -> fmt::Result {
-        f.write_str(match self {
+impl CommandName {
+    /// Its word on the command line.
+    pub fn word(self) -> &'static str {
+        match self {
             CommandName::Run => "run",
             CommandName::Trace => "trace",
             CommandName::Threads => "threads",
@@ -31,7 +31,14 @@ impl fmt::Display for CommandName {
             CommandName::Dis => "dis",
             CommandName::Check => "check",
             CommandName::Debug => "debug",
-        })
+        }
+    }
+}
+
+/// Its word.
+impl fmt::Display for CommandName {
+    fn fmt<W: fmt::Write>(&self, f: &mut fmt::Formatter<W>) -> fmt::Result {
+        f.write_str(self.word())
     }
 }
 

@@ -1,4 +1,4 @@
-//! The commands, as the help shows them: for each its word, what it is for, what it reads and writes, and its arguments.
+//! The commands, as the help shows them: for each what it is for, what it reads and writes, and its arguments.
 
 use crate::command_line::arguments::Argument;
 use zy_diagnostics::CommandName;
@@ -7,8 +7,6 @@ use zy_diagnostics::CommandName;
 #[derive(Clone, Copy)]
 pub struct Described {
     pub name: CommandName,
-    /// Its word on the command line.
-    pub word: &'static str,
     /// What it is for.
     pub about: &'static str,
     /// What is below its options: what it reads and what it writes, and an example.
@@ -50,9 +48,7 @@ impl Described {
 
 /// The command of a word.
 pub fn command_of(word: &str) -> Option<CommandName> {
-    COMMANDS
-        .into_iter()
-        .find(|name| Described::of(*name).word == word)
+    COMMANDS.into_iter().find(|name| name.word() == word)
 }
 
 /// The help of the file that most commands read.
@@ -78,7 +74,6 @@ macro_rules! below {
 /// `run`.
 const RUN: Described = Described {
     name: CommandName::Run,
-    word: "run",
     about: "Runs a scenario, and prints its listing",
     below: below!(
         "a scenario text, or with --image an image",
@@ -95,7 +90,6 @@ const RUN: Described = Described {
 /// `trace`.
 const TRACE: Described = Described {
     name: CommandName::Trace,
-    word: "trace",
     about: "Runs a scenario, and prints what each step changes",
     below: below!(
         "a scenario text, or with --image an image",
@@ -112,7 +106,6 @@ const TRACE: Described = Described {
 /// `asm`.
 const ASM: Described = Described {
     name: CommandName::Asm,
-    word: "asm",
     about: "Reads a scenario text, and writes its image",
     below: below!(
         "a scenario text",
@@ -125,7 +118,6 @@ const ASM: Described = Described {
 /// `dis`.
 const DIS: Described = Described {
     name: CommandName::Dis,
-    word: "dis",
     about: "Reads the image of a scenario, and prints its canonical text",
     below: below!(
         "the image of a scenario, as asm writes it",
@@ -138,7 +130,6 @@ const DIS: Described = Described {
 /// `check`.
 const CHECK: Described = Described {
     name: CommandName::Check,
-    word: "check",
     about: "Reads a listing, and says whether it is right",
     below: concat!(
         "The scenario at its head, through its end line, is run. Where the input is its listing, byte\n",
@@ -158,7 +149,6 @@ const CHECK: Described = Described {
 /// `threads`.
 const THREADS: Described = Described {
     name: CommandName::Threads,
-    word: "threads",
     about: "Runs a scenario by three threads, and prints its listing",
     below: below!(
         "a scenario text, or with --image an image",
@@ -171,7 +161,6 @@ const THREADS: Described = Described {
 /// `debug`.
 const DEBUG: Described = Described {
     name: CommandName::Debug,
-    word: "debug",
     about: "Answers commands on the run of a scenario, one a line",
     below: concat!(
         "Input:   a scenario text through its end line, and below it commands, one a line;\n",
@@ -199,7 +188,6 @@ const DEBUG: Described = Described {
 /// `search`.
 const SEARCH: Described = Described {
     name: CommandName::Search,
-    word: "search",
     about: "Looks for a schedule of a scenario after which a state shows something",
     below: concat!(
         "Input:   a scenario text, or with --image an image, at most 4194304 bytes; its choices are steps\n",
@@ -242,7 +230,6 @@ const SEARCH: Described = Described {
 /// `find`.
 const FIND: Described = Described {
     name: CommandName::Find,
-    word: "find",
     about: "Finds the states of a scenario's run that show something",
     below: concat!(
         "Input:   a scenario text, or with --image an image, at most 4194304 bytes\n",
@@ -267,7 +254,6 @@ const FIND: Described = Described {
 /// `order`.
 const ORDER: Described = Described {
     name: CommandName::Order,
-    word: "order",
     about: "Looks for an order of three logs that the step table allows",
     below: concat!(
         "Input:   a scenario text through its end line, and below it lines of the logs of C, A and B, each\n",
