@@ -21,7 +21,7 @@ LOG = os.path.join(CRATES, 'build.log')
 PROGRAM = sys.argv[1] if sys.argv[1:] else 'zy_bench'
 ROOMS = os.path.join(CRATES, PROGRAM, 'out', 'rooms')
 
-# What one proof takes of memory, in bytes, at most.
+# What one job of a proof takes of memory, in bytes, at most.
 MEMORY = 3 << 30
 
 PROCESSORS = len(os.sched_getaffinity(0))
@@ -57,7 +57,7 @@ def minutes():
 
 
 def side_by_side():
-    """How many proofs there is room for."""
+    """How many jobs there is room for: as many as there are processors, unless memory is short."""
     with open('/proc/meminfo', encoding='ascii') as file:
         free = int(re.search(r'MemAvailable: *([0-9]+) kB', file.read()).group(1)) << 10
     return max(1, min(PROCESSORS, free // MEMORY))
@@ -111,13 +111,13 @@ class Room:
 class Proof:
     """The proof of a crate that is under way."""
 
-    def __init__(self, name, below, is_first):
+    def __init__(self, name, below, jobs, is_first):
         self.name, self.begun = name, time.monotonic()
         self.room = None if name == PROGRAM else Room(name, below)
         self.path = os.path.join(CRATES, name, 'build.log')
-        jobs, before = (str(PROCESSORS), ()) if is_first else ('1', ('nice',))
+        before = () if is_first else ('nice',)
         args, given = ([], os.devnull) if self.room else own_test()
-        words = ['lib', '--jobs', jobs] if self.room else ['run', '--jobs', jobs, '--', *args]
+        words = ['lib', '--jobs', str(jobs)] if self.room else ['run', '--jobs', str(jobs), '--', *args]
         folder = self.room.folder if self.room else os.path.join(CRATES, name)
         with open(self.path, 'wb') as log, open(given, 'rb') as stdin:
             self.process = subprocess.Popen([*before, *RT, *words], cwd=folder, stdin=stdin, stdout=log, stderr=log)
@@ -146,13 +146,16 @@ class Build:
         self.begun, self.room = time.monotonic(), side_by_side()
 
     def begin(self):
-        """Begins proofs while there is room, first those on which most of the work waits; the very first of them is on all processors, before
-        the others."""
-        ready = [name for name in self.left if self.needs[name] <= self.done]
-        first = max(self.left, key=self.behind.get, default=None)
-        for name in sorted(ready, key=self.behind.get, reverse=True)[:self.room - len(self.under_way)]:
+        """Begins proofs while there is room, first those on which most of the work waits. They share the processors, so that one that begins where no other
+        waits has those that are idle. The one of all on which most of the work waits goes before the others, and has all processors but one at least."""
+        ready = sorted((name for name in self.left if self.needs[name] <= self.done), key=self.behind.get, reverse=True)
+        first = max(self.needs.keys() - self.done, key=self.behind.get)
+        begins = ready[:self.room - len(self.under_way)]
+        share = self.room // max(1, len(self.under_way) + len(begins))
+        for name in begins:
+            is_first = name == first
             self.left.remove(name)
-            self.under_way.append(Proof(name, self.below(name), name == first))
+            self.under_way.append(Proof(name, self.below(name), max(1, share, self.room - 1 if is_first else 0), is_first))
 
     def below(self, name):
         """All crates that a crate uses, by way of others too."""
