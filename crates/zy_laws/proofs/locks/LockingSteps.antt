@@ -58,7 +58,7 @@ owns_more leaf xs p h = owns-with_page p leaf xs ∙ or_right _ _ h
 -- the wireframe that comes is the source's
 pub wire_front : (v : View) (lows : List ℕ) (ms : List Message) → v.inbox ≡ Wire lows ∷ ms → v.me.mode ≡ Empty → Roles v → (lows ≡ v.them.lows)
     × (v.them.mode ≡ SInit)
-wire_front v lows ms e empty r = let came = wire_came (taker_of v r (ap is_taker empty)) e in (came.2, came.0)
+wire_front v lows ms e empty r = let came = wire_came (taker_of v r (ap is_taker empty)) e in (cc came.out, came.source)
 
 -- a node is the same as itself
 same_node-refl : (n : Node) → same_node n n ≡ true

@@ -21,7 +21,7 @@ use Rattle.zy_table.specs.State.{Leaf, State, View, facing, seen_from}
 use Rattle.zy_laws.proofs.walk.Events.{Asks, Commits, Event, Finishes, Gives, GotAll, GotDone, GotDual, GotFinish, GotLast, GotPage}
 use Rattle.zy_laws.proofs.walk.Events.{GotReady, GotWire, IsStale, Pushes, Splits, Starts, arrived, has_lock, page, rest, step_happens}
 use Rattle.zy_laws.proofs.owner.PageCounts.{times-all_leaves, times-installed}
-use Rattle.zy_laws.proofs.owner.Phases.{Resting}
+use Rattle.zy_laws.proofs.owner.Phases.{Is, Resting}
 use Rattle.zy_laws.proofs.walk.PlayPush.{play-keeps}
 use Rattle.zy_laws.proofs.owner.Roles.{Inv, Source, turned_inv}
 use Rattle.zy_laws.proofs.walk.Kinds.{in_place_of}
@@ -101,7 +101,7 @@ opening_owned xs each p = let long = length-map xs (λ (x : Leaf). x.low) in let
 pub opening_inv : (sc : Scenario) → Inv (facing A (opening sc))
 unfolding opening
 opening_inv sc = record {
-  roles = Source (Resting refl refl refl refl refl);
+  roles = Source (Is Resting (record { source = refl; destination = refl; lows = refl; out = refl; back = refl }));
   owned = record { once = opening_owned (opening_leaves (opening_rows sc.cap) sc.rows) (λ p. times-leaves (opening_rows sc.cap) p sc.rows) };
   mine = record { none = λ h. absurd (false≢true h) };
   theirs = record { none = λ _. refl };

@@ -8,13 +8,13 @@ use Rattle.zy_isa.specs.declared.node.Node.TheVariants.{A, B}
 use Rattle.zy_model.specs.Families.{is_destination, is_home, is_idle, is_source}
 use Rattle.zy_model.specs.Table.{home_of, is_waiting}
 use Rattle.zy_model.specs.declared.mode.NodeMode.{NodeMode}
-use Rattle.zy_model.specs.declared.mode.NodeMode.TheVariants.{Empty, Normal, SInit, SDual, SFinish, DInit, DDual, DFinish}
+use Rattle.zy_model.specs.declared.mode.NodeMode.TheVariants.{Empty, Normal, SInit, SFinish, DInit, DDual, DFinish}
 use Rattle.zy_table.specs.Change.{aborted, asks, begun, committed, cut, did, leaves, locked, nobody, shares, txn_at}
 use Rattle.zy_table.specs.Client.{is_active}
 use Rattle.zy_table.specs.declared.status.Status.TheVariants.{Active}
 use Rattle.zy_table.specs.State.{Message, NodeState, Txn, View}
 use Rattle.zy_laws.proofs.counts.Fates.{txns_of}
-use Rattle.zy_laws.proofs.owner.Phases.{Phase, Resting, Ready_sent, Wire_sent, Dual_sent, Both_sent, In_dual, Finish_sent, In_finish, Done_sent}
+use Rattle.zy_laws.proofs.owner.Phases.{Phase, Is, Resting, Ready_sent, Wire_sent}
 use Rattle.zy_laws.proofs.owner.Roles.{Destination, Roles, Source}
 use Rattle.zy_laws.proofs.sources.Sides.{none}
 use Rattle.zy_laws.proofs.sources.Sorting.{sorts}
@@ -44,34 +44,17 @@ no_init v w (GotPage leaf ms f pulls e) h is = sym (ap (λ (x : View). x.me.mode
 no_init v w (Pushes p finish own e) h is = sym (ap (λ (x : View). x.me.mode) e) ∙ is
 no_init v w e h is = sym (in_place_of e refl).mode ∙ is
 
--- a mode is not two modes
-apart_modes : {X : Type 0} (m a b : NodeMode) → m ≡ a → m ≡ b → (a ≡ b → ⊥) → X
-apart_modes m a b x y off = absurd (off (sym x ∙ y))
-
 -- beside a source in SInit nobody runs yet
 source_init : {src dst : NodeState} {out back : List Message} → Phase src dst out back → src.mode ≡ SInit
     → (is_idle dst.mode ≡ true) ⊎ (is_waiting dst.mode ≡ true)
-source_init (Resting a b c d f) is = apart_modes _ Normal SInit a is (λ h. cc)
-source_init (Wire_sent a b c d f) is = inl (ap is_idle b)
-source_init (Ready_sent a b c d f) is = inr (ap is_waiting b)
-source_init (Dual_sent ms a b c d all f) is = apart_modes _ SDual SInit a is (λ h. cc)
-source_init (Both_sent ms a b c d all f) is = apart_modes _ SFinish SInit a is (λ h. cc)
-source_init (In_dual a b c d f) is = apart_modes _ SDual SInit a is (λ h. cc)
-source_init (Finish_sent a b c d f) is = apart_modes _ SFinish SInit a is (λ h. cc)
-source_init (In_finish a b c d f) is = apart_modes _ SFinish SInit a is (λ h. cc)
-source_init (Done_sent a b c all d f) is = apart_modes _ SFinish SInit a is (λ h. cc)
+source_init (Is Wire_sent at) is = inl (ap is_idle at.destination)
+source_init (Is Ready_sent at) is = inr (ap is_waiting at.destination)
+source_init (Is g at) is = cc (at.source, is)
 
 -- no destination is in SInit
 destination_init : {src dst : NodeState} {out back : List Message} {X : Type 0} → Phase src dst out back → dst.mode ≡ SInit → X
-destination_init (Resting a b c d f) is = apart_modes _ Empty SInit b is (λ h. cc)
-destination_init (Wire_sent a b c d f) is = apart_modes _ Empty SInit b is (λ h. cc)
-destination_init (Ready_sent a b c d f) is = apart_modes _ DInit SInit b is (λ h. cc)
-destination_init (Dual_sent ms a b c d all f) is = apart_modes _ DInit SInit b is (λ h. cc)
-destination_init (Both_sent ms a b c d all f) is = apart_modes _ DInit SInit b is (λ h. cc)
-destination_init (In_dual a b c d f) is = apart_modes _ DDual SInit b is (λ h. cc)
-destination_init (Finish_sent a b c d f) is = apart_modes _ DDual SInit b is (λ h. cc)
-destination_init (In_finish a b c d f) is = apart_modes _ DFinish SInit b is (λ h. cc)
-destination_init (Done_sent a b c all d f) is = apart_modes _ Normal SInit b is (λ h. cc)
+destination_init (Is Resting at) is = cc (at.destination, is)
+destination_init (Is g at) is = cc (at.destination, is)
 
 -- beside a node in SInit nobody runs yet
 pub unready : (v : View) → Roles v → v.them.mode ≡ SInit → (is_idle v.me.mode ≡ true) ⊎ (is_waiting v.me.mode ≡ true)

@@ -32,7 +32,7 @@ use Rattle.zy_laws.proofs.walk.ModeLines.{pulls_in, sends_in, splits_in_normal}
 use Rattle.zy_laws.proofs.owner.MovingPages.{all_below-owns}
 use Rattle.zy_laws.proofs.travel.OneWay.{sourced}
 use Rattle.zy_laws.proofs.places.Opening.{laid_out}
-use Rattle.zy_laws.proofs.owner.Phases.{Phase, Resting, source_is}
+use Rattle.zy_laws.proofs.owner.Phases.{Phase, Is, At, Resting}
 use Rattle.zy_laws.proofs.owner.PhaseSteps.{taker_of}
 use Rattle.zy_laws.proofs.walk.PlayPush.{play-keeps-with}
 use Rattle.zy_laws.proofs.locks.Reached.{Reached, kept_from, lows_then, opening_reached, reached, step_kept}
@@ -183,11 +183,10 @@ elsewhere A B h = refl
 elsewhere B A h = refl
 elsewhere B B h = absurd (h refl)
 
--- a phase of Normal and Empty has empty links and no wireframe at the destination
-rested : (src dst : NodeState) (out back : List Message) → Phase src dst out back → src.mode ≡ Normal → dst.mode ≡ Empty → (dst.lows ≡ []) × (out ≡ [])
-    × (back ≡ [])
-rested src dst out back (Resting a b c d f) m e = (c, d, f)
-rested src dst out back ph m e = cc (source_is ph)
+-- beside a source in Normal the migration rests
+rested : {src dst : NodeState} {out back : List Message} → Phase src dst out back → src.mode ≡ Normal → At Resting src dst out back
+rested (Is Resting at) m = at
+rested (Is g at) m = cc (at.source, m)
 
 -- it holds of the node seen from
 asked_me : (n : Node) (s : State) → Both s → Asked (facing n s).me
@@ -206,13 +205,13 @@ nothing_left sc ok cs n empty normal =
     let v = facing n s in
     let r = reached sc ok cs in
     let k = kept_from sc n s r.lows r.kept in
-    let ph = rested v.them v.me v.inbox v.outbox (taker_of v k.inv.roles (ap is_taker empty)) normal empty in
+    let at = rested (taker_of v k.inv.roles (ap is_taker empty)) normal in
     let all = play_both sc ok cs in
-    let nobody : (t : ℕ) → IsAt v t n → ⊥ = λ t at. nobody_runs sc n v.me v r.lows t k.mine (ap is_idle empty) at in
+    let nobody : (t : ℕ) → IsAt v t n → ⊥ = λ t here. nobody_runs sc n v.me v r.lows t k.mine (ap is_idle empty) here in
     record {
-      links = (ph.1, ph.2);
+      links = (at.out, at.back);
       asked = ((asked_me n s all).none (ap may_pull empty), (asked_them n s all).none (ap may_pull normal));
-      bare = (k.inv.mine.none (ap is_bare empty), ph.0);
+      bare = (k.inv.mine.none (ap is_bare empty), at.lows);
       free = no_lock v.me.locks (λ p t h. nobody t (k.mine.runs p t h));
       idle = λ t active. elsewhere (txn_at v t).node n (λ here. nobody t (active, here));
     }
