@@ -27,7 +27,7 @@ use Rattle.zy_laws.proofs.locks.TxnLocks.{aborted_kept, committed_kept, goes_kep
 use Rattle.zy_table.proofs.PageLists.{owns-with_page}
 use Rattle.zy_laws.proofs.walk.Events.{arrived, rest, page, Event, lows_after, Rests, Begins, Aborts, SumsUp, Gets}
 use Rattle.zy_laws.proofs.walk.Events.{Writes, Inserts, Splits, Commits, Asks, Starts, GotWire, GotReady, GotDual, IsStale, Gives, GotPage, GotLast, GotFinish}
-use Rattle.zy_laws.proofs.walk.Events.{GotAll, GotDone, Finishes, Pushes, GoesOn}
+use Rattle.zy_laws.proofs.walk.Events.{GotAll, GotDone, Finishes, Pushes, GoesOn, is_at}
 use Rattle.zy_laws.proofs.places.Installing.{Placed}
 use Rattle.zy_table.proofs.LockLists.{locked_of}
 use Rattle.zy_laws.proofs.locks.Locking.{Kept, Locking, Stay, idle_locking, nobody_runs, seen_same, steady, untouched, whole}
@@ -140,19 +140,19 @@ pub kept_event : (sc : Scenario) (n : Node) (v w : View) (lows : List ℕ) → 2
 kept_event sc n v w lows two o k i (Rests e) = along e i (λ _. k)
 kept_event sc n v w lows two o k i (Begins line e) = along e i (begun_event sc n v lows line.txn line.home k line.at_a line.new line.home_is)
 kept_event sc n v w lows two o k i (Aborts line e) = along e i (aborted_kept sc n v lows line.txn k (line.active, line.here) line.cause)
-kept_event sc n v w lows two o k i (GoesOn line e) = along e i (goes_kept sc n v lows line.txn k (line.runs.active, line.runs.here) line.pc line.regs)
-kept_event sc n v w lows two o k i (SumsUp line e) = along e i (sum_kept sc n v lows line.txn k (line.runs.active, line.runs.here) line.first line.last _ _ line.free)
+kept_event sc n v w lows two o k i (GoesOn line e) = along e i (goes_kept sc n v lows line.txn k (is_at line.runs) line.pc line.regs)
+kept_event sc n v w lows two o k i (SumsUp line e) = along e i (sum_kept sc n v lows line.txn k (is_at line.runs) line.first line.last _ _ line.free)
 kept_event sc n v w lows two o k i (Gets line e) =
-    along e i (lock_kept sc n v lows line.txn k (line.runs.active, line.runs.here) line.key Shared _ _ _ line.free (λ j h. inl h))
+    along e i (lock_kept sc n v lows line.txn k (is_at line.runs) line.key Shared _ _ _ line.free (λ j h. inl h))
 kept_event sc n v w lows two o k i (Writes line e) =
-    along e i (lock_kept sc n v lows line.txn k (line.runs.active, line.runs.here) line.key Exclusive _ _ _ line.free (grown line.key line.value (txn_at v line.txn).rows))
+    along e i (lock_kept sc n v lows line.txn k (is_at line.runs) line.key Exclusive _ _ _ line.free (grown line.key line.value (txn_at v line.txn).rows))
 kept_event sc n v w lows two o k i (Inserts line e) =
-    along e i (lock_kept sc n v lows line.txn k (line.runs.active, line.runs.here) line.key Exclusive _ _ _ line.free (grown line.key line.value (txn_at v line.txn).rows))
+    along e i (lock_kept sc n v lows line.txn k (is_at line.runs) line.key Exclusive _ _ _ line.free (grown line.key line.value (txn_at v line.txn).rows))
 kept_event sc n v w lows two o k i (Splits line e) =
-    let at : IsAt v line.txn n = (line.runs.active, line.runs.here) in
+    let at : IsAt v line.txn n = (is_at line.runs) in
     let fresh = split_new sc n v lows line.txn k at line.key two (rows_at (page line.key v) v.me.pages o.mine.rows) (o.private line.txn) line.absent line.full in
     along e i (cut_kept sc n v lows line.txn k at line.key _ line.free line.normal (split_on sc n v lows line.txn k at line.key line.full) fresh)
-kept_event sc n v w lows two o k i (Commits line e) = along e i (committed_kept sc n v lows line.txn k (line.runs.active, line.runs.here))
+kept_event sc n v w lows two o k i (Commits line e) = along e i (committed_kept sc n v lows line.txn k (is_at line.runs))
 kept_event sc n v w lows two o k i (Asks line e) = along e i (asks_kept sc n v lows k line.page)
 kept_event sc n v w lows two o k i (Starts line e) =
     along e i (turned_kept sc n v lows k (ap is_idle line.normal) refl (λ _. inr (ap is_source line.normal)) refl (sent_bare v.outbox (Wire v.me.lows) refl))

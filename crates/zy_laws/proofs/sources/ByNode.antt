@@ -27,7 +27,7 @@ use Rattle.zy_laws.proofs.owner.Roles.{Inv, normal_other, turned, turned_inv}
 use Rattle.zy_laws.proofs.serial.Committing.{committed_list, committed_txns}
 use Rattle.zy_laws.proofs.sources.Sorting.{keeps_commits, sorted_first, sorted_last, sorts, sorted_after, then_starts, then_still}
 use Rattle.zy_laws.proofs.walk.Events.{Event, Begins, Aborts, GoesOn, Gets, Runs, SumsUp, Writes, Inserts, Splits, Commits, Asks, Starts, GotWire, GotReady}
-use Rattle.zy_laws.proofs.walk.Events.{GotDual, IsStale, Gives, GotPage, GotLast, GotFinish, GotAll, GotDone, Finishes, Pushes}
+use Rattle.zy_laws.proofs.walk.Events.{GotDual, IsStale, Gives, GotPage, GotLast, GotFinish, GotAll, GotDone, Finishes, Pushes, is_at}
 use Rattle.zy_laws.proofs.walk.Kinds.{in_place_of, quiet_of}
 use Rattle.zy_laws.proofs.walk.Txns.{active_off, at_other, at_same, at_self, new_off}
 
@@ -229,7 +229,7 @@ a_event sc v w lows o (Commits line e) k off all (Before normal a b d) =
 a_event sc v w lows o (Commits line e) k off all (Since leaving a b) =
     let c : CommitRecord = record { txn = line.txn; done = (txn_at v line.txn).done + 1 } in
     let z = committed line.txn v in
-    let source = leaving_source v.me.mode leaving (k.mine.busy line.txn (line.runs.active, line.runs.here)) in
+    let source = leaving_source v.me.mode leaving (k.mine.busy line.txn (is_at line.runs)) in
     subst (λ (x : View). ByNode x.me.mode (txn_at x) x.commits (sorted_after v x o)) (sym e)
     (subst (ByNode v.me.mode (txn_at z) z.commits) (sym (sorted_first (is_source v.me.mode) v.commits c o source))
     (Since leaving (ap (λ xs. xs ++ c ∷ []) a ∙ sym (here_more sc A v line.txn line.runs all)) (b ∙ sym (there_same sc A v line.txn line.runs all))))
@@ -254,7 +254,7 @@ unfolding committed Onward
 b_event sc v w lows o (Commits line e) one k off them all (Before normal a b d) =
     let i = turned_inv v k.inv in
     let idle = normal_other (turned v) i.roles (ap may_split normal) in
-    absurd (false≢true (sym (k.mine.busy line.txn (line.runs.active, line.runs.here)) ∙ idle.0))
+    absurd (false≢true (sym (k.mine.busy line.txn (is_at line.runs)) ∙ idle.0))
 b_event sc v w lows o (Commits line e) one k off them all (Since leaving a b) =
     let c : CommitRecord = record { txn = line.txn; done = (txn_at v line.txn).done + 1 } in
     let z = committed line.txn v in

@@ -28,7 +28,7 @@ use Rattle.zy_laws.proofs.sources.Ending.{held_commit, last_commit, source_commi
 use Rattle.zy_laws.proofs.sources.Going.{aborted_divided, begun_divided, cut_divided, goes_divided, key_divided, mine_on, range_divided, read_on}
 use Rattle.zy_laws.proofs.sources.Going.{starts_divided, stays_divided, sum_on, there_on}
 use Rattle.zy_laws.proofs.sources.Halves.{Divided}
-use Rattle.zy_laws.proofs.walk.Events.{Event, Rests, Begins, Aborts, GoesOn, Gets, SumsUp, Writes, Inserts, Splits, Commits, Asks, Starts, GotWire, GotReady}
+use Rattle.zy_laws.proofs.walk.Events.{Event, Rests, Begins, Aborts, GoesOn, Gets, SumsUp, Writes, Inserts, Splits, Commits, Asks, Starts, GotWire, GotReady, is_at}
 use Rattle.zy_laws.proofs.walk.Events.{Starting, GotDual, IsStale, Gives, GotPage, GotLast, GotFinish, GotAll, GotDone, Finishes, Pushes, lows_after, sum_at, value_at}
 use Rattle.zy_laws.proofs.walk.Kinds.{Quiet, of_txn, quiet_of}
 
@@ -130,22 +130,22 @@ keeps_event sc n v w start lows o s (GoesOn line e) h k = along e k (goes_divide
 keeps_event sc n v w start lows o s (SumsUp line e) h k = along e k
     (range_divided sc n v start lows o s line.txn line.first line.last _ _ (effect.Sums line.register line.first line.last) line.runs (λ keys.
     small_sum (mine_on sc n v start lows o s) line.register line.first line.last (txn_at v line.txn) keys (sum_at line.txn line.first line.last v) line.free.rises line.free.small
-    (sum_on sc n v start lows o s line.txn line.first line.last (line.runs.active, line.runs.here) line.free)))
+    (sum_on sc n v start lows o s line.txn line.first line.last (is_at line.runs) line.free)))
 keeps_event sc n v w start lows o s (Gets line e) h k = along e k
     (key_divided sc n v start lows o s line.txn line.key Shared _ _ _ (effect.Accesses (Reads line.register) line.key) line.runs (λ keys.
     small_read (mine_on sc n v start lows o s) line.key (txn_at v line.txn) keys line.free.small line.register (value_at line.txn line.key v)
-    (read_on sc n v start lows o s line.txn line.key (line.runs.active, line.runs.here) line.free.here)))
+    (read_on sc n v start lows o s line.txn line.key (is_at line.runs) line.free.here)))
 keeps_event sc n v w start lows o s (Writes line e) h k = along e k
     (key_divided sc n v start lows o s line.txn line.key Exclusive _ _ _ (effect.Accesses (access.Writes line.value) line.key) line.runs (λ keys.
     small_write (mine_on sc n v start lows o s) line.key (txn_at v line.txn) keys line.free.small line.value
-    (there_on sc n v start lows o s line.txn line.key Exclusive (line.runs.active, line.runs.here) line.free ∙ line.there)))
+    (there_on sc n v start lows o s line.txn line.key Exclusive (is_at line.runs) line.free ∙ line.there)))
 keeps_event sc n v w start lows o s (Inserts line e) h k = along e k
     (key_divided sc n v start lows o s line.txn line.key Exclusive _ _ _ (effect.Accesses (access.Inserts line.value) line.key) line.runs (λ keys.
     small_insert (mine_on sc n v start lows o s) line.key (txn_at v line.txn) keys line.free.small line.value
-    (there_on sc n v start lows o s line.txn line.key Exclusive (line.runs.active, line.runs.here) line.free ∙ line.absent)))
+    (there_on sc n v start lows o s line.txn line.key Exclusive (is_at line.runs) line.free ∙ line.absent)))
 keeps_event sc n v w start lows o s (Splits line e) h k =
-    let on = split_on sc n v lows line.txn s.kept (line.runs.active, line.runs.here) line.key line.full in
-    along e k (cut_divided sc n v start lows o s line.txn line.key _ (line.runs.active, line.runs.here) line.free line.normal on)
+    let on = split_on sc n v lows line.txn s.kept (is_at line.runs) line.key line.full in
+    along e k (cut_divided sc n v start lows o s line.txn line.key _ (is_at line.runs) line.free line.normal on)
 keeps_event sc n v w start lows o s e h k =
     let q = quiet_of e refl in
     let x = wanes_of e refl refl in

@@ -16,7 +16,7 @@ use Rattle.zy_laws.specs.SourceFirst.{Sorted}
 use Rattle.zy_laws.proofs.locks.Locking.{Kept}
 use Rattle.zy_laws.proofs.sources.Places.{NoneIs}
 use Rattle.zy_laws.proofs.sources.Sorting.{keeps_commits, sorted_after, sorted_first, sorted_last, then_starts, then_still}
-use Rattle.zy_laws.proofs.walk.Events.{Event, Begins, Commits, Starts}
+use Rattle.zy_laws.proofs.walk.Events.{Event, Begins, Commits, Starts, is_at}
 use Rattle.zy_laws.proofs.walk.Txns.{IsAt, active_off}
 use Rattle.zy_laws.proofs.sources.Beginnings.{back, back_begun, home_away, no_init, unready}
 
@@ -71,7 +71,7 @@ timed_event sc was n v w o (Commits line e) them still (Ends_in_later old more i
     false_from_ne_true _ (λ h. false≢true (sym (active_off (txn_at v line.txn).status line.runs.active) ∙ still line.txn h)) in
     subst (λ x. Timed was n x (sorted_after v x o)) (sym e) (elim (cases_Bool (is_source v.me.mode)) [
       | inl source ↦ subst (Timed was n z) (sym (sorted_first (is_source v.me.mode) v.commits c o source))
-          (Ends_in_later old more is (none_both is_new was o.first (c ∷ []) f (mine.old source line.txn (line.runs.active, line.runs.here), tt)) b r m d)
+          (Ends_in_later old more is (none_both is_new was o.first (c ∷ []) f (mine.old source line.txn (is_at line.runs), tt)) b r m d)
       | inr off ↦ subst (Timed was n z) (sym (sorted_last (is_source v.me.mode) v.commits c o off))
           (Ends_in_later old (more ++ c ∷ []) (ap (λ xs. xs ++ c ∷ []) is ∙ append_assoc old more (c ∷ [])) f b
           (none_both is_committed was more (c ∷ []) r (late, tt)) m d)
@@ -127,7 +127,7 @@ early_event sc n v w lows o (Commits line e) k them x =
       | inr off ↦ subst (Early z) (sym (sorted_last (is_source v.me.mode) v.commits c o off)) (record {
         mine = λ h. absurd (false≢true (sym off ∙ ap is_source h));
         theirs = λ h. elim (unready v k.inv.roles h) [
-          | inl idle ↦ absurd (false≢true (sym (k.mine.busy line.txn (line.runs.active, line.runs.here)) ∙ idle))
+          | inl idle ↦ absurd (false≢true (sym (k.mine.busy line.txn (is_at line.runs)) ∙ idle))
           | inr waits ↦ absurd (false≢true (sym line.runs.begun ∙ waits))
         ];
       })

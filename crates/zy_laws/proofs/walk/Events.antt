@@ -19,6 +19,7 @@ use Rattle.zy_model.specs.Locks.{conflict, is_locked}
 use Rattle.zy_model.specs.declared.mode.NodeMode.{NodeMode}
 use Rattle.zy_model.specs.declared.mode.NodeMode.TheVariants.{Empty, Normal, SInit, SDual, SFinish, DInit, DDual, DFinish}
 use Rattle.zy_model.specs.declared.kind.Kind.TheVariants as kind
+use Rattle.zy_model.specs.declared.table.MessageLine.{MessageLine}
 use Rattle.zy_model.specs.declared.table.MessageLine.TheVariants.{Stray, Turns}
 use Rattle.zy_model.specs.Table.{may_start, on_finish, home_of, may_split, may_pull, may_push, is_waiting}
 use Rattle.zy_model.specs.Messages.{Wire, Ready, Dual, Pull, Page, Finish, Done}
@@ -49,6 +50,7 @@ use Rattle.zy_laws.specs.Journey.{is_gone, is_stray}
 use Rattle.zy_table.specs.Play.{move, side_of}
 use Rattle.zy_laws.proofs.walk.ModeLines.{wire_line, ready_line, dual_line, pull_line, page_line, finish_line, done_line}
 use Rattle.zy_laws.proofs.walk.ModeLines.{starts_at_a, starts_from, pushes_in_finish}
+use Rattle.zy_laws.proofs.walk.Txns.{IsAt}
 use Rattle.zy_table.proofs.PageLists.{least-owns}
 use Rattle.zy_table.proofs.RangeLists.{found_has, key_of_page, none_passes}
 use Rattle.zy_table.proofs.AbortedLocks.{aborted-locked}
@@ -62,6 +64,10 @@ pub record Runs (sc : Scenario) (n : Node) (t : ℕ) (e : Effect) (v : View) : T
   pub begun : is_waiting v.me.mode ≡ false
   pub next : slice_get (program_of sc t) (txn_at v t).pc ≡ Some instr
   pub does : effect_of instr (txn_at v t).regs ≡ e
+
+-- then t is at n
+abbrev pub is_at : {sc : Scenario} {n : Node} {t : ℕ} {e : Effect} {v : View} → Runs sc n t e v → IsAt v t n
+is_at runs = (runs.active, runs.here)
 
 -- where an effect that needs no page leaves a transaction: its program counter and its registers
 pub data Leads (e : Effect) (x : Txn) (pc : ℕ) (regs : List ℕ) : Type 0 where
@@ -322,8 +328,8 @@ pub record Lost (n : Node) (v : View) : Type 0 where
 -- the front of the inbox is a message that the mode does not know
 pub record Strange (v : View) : Type 0 where
   pub message : Message
-  pub after : List Message
-  pub front : v.inbox ≡ message ∷ after
+  pub taken : Front message v
+  pub open taken use *
   pub line : mode_line message v ≡ Stray
 
 -- a split's outcome has the number of the new page, a start's that it acted; and a page that is asked for is that of a key
@@ -572,117 +578,118 @@ module _ (sc : Scenario) (n : Node) where
       (λ _. rests v _ refl refl)
 
   -- the lines of take, where the mode table has one
-  strays : (m : Message) (ms : List Message) (v : View) → v.inbox ≡ m ∷ ms → mode_line m v ≡ Stray
-      → Happens sc n v (arrival_step (mode_line m v) m v (rest v ms))
+  strays : (m : Message) (v : View) (taken : Front m v) → mode_line m v ≡ Stray → Happens sc n v (arrival_step (mode_line m v) m v (rest v taken.after))
   unfolding arrival_step
-  strays m ms v f e =
-      subst (λ line. Happens sc n v (arrival_step line m v (rest v ms))) (sym e)
-      (record { event = Rests refl; told = tt; lost = λ h. never h; strange = λ _. record { message = m; after = ms; front = f; line = e } })
+  strays m v taken e =
+      subst (λ y. Happens sc n v (arrival_step y m v (rest v taken.after))) (sym e)
+      (record { event = Rests refl; told = tt; lost = λ h. never h; strange = λ _. record { message = m; taken = taken; line = e } })
+
+  -- a message is taken as its line says
+  by_line : (m : Message) (v : View) (taken : Front m v) (y : MessageLine) → mode_line m v ≡ y
+      → Happens sc n v (arrival_step y m v (rest v taken.after)) → Happens sc n v (arrival_step (mode_line m v) m v (rest v taken.after))
+  by_line m v taken y e h = subst (λ z. Happens sc n v (arrival_step z m v (rest v taken.after))) (sym e) h
 
   -- taking a wireframe
-  wire_happens : (lows : List ℕ) (ms : List Message) (v : View) → v.inbox ≡ Wire lows ∷ ms
-      → Happens sc n v (arrival_step (mode_line (Wire lows) v) (Wire lows) v (rest v ms))
+  wire_happens : (lows : List ℕ) (v : View) (taken : Front (Wire lows) v)
+      → Happens sc n v (arrival_step (mode_line (Wire lows) v) (Wire lows) v (rest v taken.after))
   unfolding arrival_step
-  wire_happens lows ms v f =
+  wire_happens lows v taken =
       elim (wire_line v.me.mode (all_here (with_brought (Wire lows) v.me))) [
-        | inl e ↦ strays (Wire lows) ms v f e
-        | inr h ↦ subst (λ line. Happens sc n v (arrival_step line (Wire lows) v (rest v ms))) (sym h.1) (plain v _ (GotWire (record { lows = lows; taken = record { after = ms; front = f }; empty = h.0 }) refl) refl refl tt)
+        | inl e ↦ strays (Wire lows) v taken e
+        | inr h ↦ by_line (Wire lows) v taken _ h.1 (plain v _ (GotWire (record { lows = lows; taken = taken; empty = h.0 }) refl) refl refl tt)
       ]
 
   -- taking a ready
-  ready_happens : (ms : List Message) (v : View) → v.inbox ≡ Ready ∷ ms
-      → Happens sc n v (arrival_step (mode_line Ready v) Ready v (rest v ms))
+  ready_happens : (v : View) (taken : Front Ready v) → Happens sc n v (arrival_step (mode_line Ready v) Ready v (rest v taken.after))
   unfolding arrival_step
-  ready_happens ms v f =
+  ready_happens v taken =
       elim (ready_line v.me.mode (all_here (with_brought Ready v.me))) [
-        | inl e ↦ strays Ready ms v f e
-        | inr h ↦ subst (λ line. Happens sc n v (arrival_step line Ready v (rest v ms))) (sym h.1) (plain v _ (GotReady (record { taken = record { after = ms; front = f }; mode = h.0 }) refl) refl refl tt)
+        | inl e ↦ strays Ready v taken e
+        | inr h ↦ by_line Ready v taken _ h.1 (plain v _ (GotReady (record { taken = taken; mode = h.0 }) refl) refl refl tt)
       ]
 
   -- taking a dual
-  dual_happens : (ms : List Message) (v : View) → v.inbox ≡ Dual ∷ ms → Happens sc n v (arrival_step (mode_line Dual v) Dual v (rest v ms))
+  dual_happens : (v : View) (taken : Front Dual v) → Happens sc n v (arrival_step (mode_line Dual v) Dual v (rest v taken.after))
   unfolding arrival_step
-  dual_happens ms v f =
+  dual_happens v taken =
       elim (dual_line v.me.mode (all_here (with_brought Dual v.me))) [
-        | inl e ↦ strays Dual ms v f e
-        | inr h ↦ subst (λ line. Happens sc n v (arrival_step line Dual v (rest v ms))) (sym h.1) (plain v _ (GotDual (record { taken = record { after = ms; front = f }; mode = h.0 }) refl) refl refl tt)
+        | inl e ↦ strays Dual v taken e
+        | inr h ↦ by_line Dual v taken _ h.1 (plain v _ (GotDual (record { taken = taken; mode = h.0 }) refl) refl refl tt)
       ]
 
   -- taking a page, the last one or one of more
-  page_happens : (leaf : Leaf) (ms : List Message) (v : View) → v.inbox ≡ Page leaf ∷ ms
-      → Happens sc n v (arrival_step (mode_line (Page leaf) v) (Page leaf) v (rest v ms))
+  page_happens : (leaf : Leaf) (v : View) (taken : Front (Page leaf) v)
+      → Happens sc n v (arrival_step (mode_line (Page leaf) v) (Page leaf) v (rest v taken.after))
   unfolding arrival_step
-  page_happens leaf ms v f =
+  page_happens leaf v taken =
       elim (page_line v.me.mode (all_here (with_brought (Page leaf) v.me))) [
-        | inl e ↦ strays (Page leaf) ms v f e
+        | inl e ↦ strays (Page leaf) v taken e
         | inr h ↦ elim h [
-          | inl more ↦ subst (λ line. Happens sc n v (arrival_step line (Page leaf) v (rest v ms))) (sym more.1)
-              (plain v _ (GotPage (record { leaf = leaf; taken = record { after = ms; front = f }; pulls = more.0 }) refl) refl refl tt)
-          | inr last ↦ subst (λ line. Happens sc n v (arrival_step line (Page leaf) v (rest v ms))) (sym last.2)
-              (plain v _ (GotLast (record { leaf = leaf; taken = record { after = ms; front = f }; mode = last.0; all = last.1 }) refl) refl refl tt)
+          | inl more ↦ by_line (Page leaf) v taken _ more.1 (plain v _ (GotPage (record { leaf = leaf; taken = taken; pulls = more.0 }) refl) refl refl tt)
+          | inr last ↦ by_line (Page leaf) v taken _ last.2
+              (plain v _ (GotLast (record { leaf = leaf; taken = taken; mode = last.0; all = last.1 }) refl) refl refl tt)
         ]
       ]
 
   -- taking a finish, with all pages here or not
-  finish_taken : (ms : List Message) (v : View) → v.inbox ≡ Finish ∷ ms
-      → Happens sc n v (arrival_step (mode_line Finish v) Finish v (rest v ms))
+  finish_taken : (v : View) (taken : Front Finish v) → Happens sc n v (arrival_step (mode_line Finish v) Finish v (rest v taken.after))
   unfolding arrival_step
-  finish_taken ms v f =
+  finish_taken v taken =
       elim (finish_line v.me.mode (all_here (with_brought Finish v.me))) [
-        | inl e ↦ strays Finish ms v f e
-        | inr h ↦ elim h.1 [
-          | inl some ↦ subst (λ line. Happens sc n v (arrival_step line Finish v (rest v ms))) (sym some.1) (plain v _ (GotFinish (record { taken = record { after = ms; front = f }; mode = h.0 }) refl) refl refl tt)
-          | inr all ↦ subst (λ line. Happens sc n v (arrival_step line Finish v (rest v ms))) (sym all.1) (plain v _ (GotAll (record { take = record { taken = record { after = ms; front = f }; mode = h.0 }; all = all.0 }) refl) refl refl tt)
+        | inl e ↦ strays Finish v taken e
+        | inr h ↦ let take : Taking Finish DDual v = record { taken = taken; mode = h.0 } in elim h.1 [
+          | inl some ↦ by_line Finish v taken _ some.1 (plain v _ (GotFinish take refl) refl refl tt)
+          | inr all ↦ by_line Finish v taken _ all.1 (plain v _ (GotAll (record { take = take; all = all.0 }) refl) refl refl tt)
         ]
       ]
 
   -- taking a done
-  done_happens : (ms : List Message) (v : View) → v.inbox ≡ Done ∷ ms → Happens sc n v (arrival_step (mode_line Done v) Done v (rest v ms))
+  done_happens : (v : View) (taken : Front Done v) → Happens sc n v (arrival_step (mode_line Done v) Done v (rest v taken.after))
   unfolding arrival_step
-  done_happens ms v f =
+  done_happens v taken =
       elim (done_line v.me.mode (all_here (with_brought Done v.me))) [
-        | inl e ↦ strays Done ms v f e
-        | inr h ↦ subst (λ line. Happens sc n v (arrival_step line Done v (rest v ms))) (sym h.1) (plain v _ (GotDone (record { taken = record { after = ms; front = f }; mode = h.0 }) refl) refl refl tt)
+        | inl e ↦ strays Done v taken e
+        | inr h ↦ by_line Done v taken _ h.1 (plain v _ (GotDone (record { taken = taken; mode = h.0 }) refl) refl refl tt)
       ]
 
   -- taking a pull in a mode that sends: it is stale, it waits for the lock, or the page leaves
-  pull_turns : (p : ℕ) (ms : List Message) (v : View) (to : NodeMode) → v.inbox ≡ Pull p ∷ ms → is_sending v.me.mode ≡ true
-      → Happens sc n v (pull_step sc p (Turns to (Some kind.Page)) v (rest v ms))
+  pull_turns : (v : View) (pull : Pulled v) (to : NodeMode) → is_sending v.me.mode ≡ true
+      → Happens sc n v (pull_step sc pull.page (Turns to (Some kind.Page)) v (rest v pull.after))
   unfolding pull_step
-  pull_turns p ms v to f sends =
-      cond_both (not (owns v.me.pages p)) _ _ (Happens sc n v)
-      (λ _. plain v _ (IsStale (record { page = p; taken = record { after = ms; front = f } }) refl) refl refl tt)
-      (λ own. cond_both (is_held sc.rule && is_locked v.me.locks p) _ _ (Happens sc n v)
+  pull_turns v pull to sends =
+      cond_both (not (owns v.me.pages pull.page)) _ _ (Happens sc n v)
+      (λ _. plain v _ (IsStale pull refl) refl refl tt)
+      (λ own. cond_both (is_held sc.rule && is_locked v.me.locks pull.page) _ _ (Happens sc n v)
       (λ _. rests v _ refl refl)
-      (λ free. plain v _ (Gives (record { pull = record { page = p; taken = record { after = ms; front = f } }; sends = sends; own = not-false _ own; free = free }) refl) refl refl tt))
+      (λ free. plain v _ (Gives (record { pull = pull; sends = sends; own = not-false _ own; free = free }) refl) refl refl tt))
 
   -- taking a pull
-  pull_happens : (p : ℕ) (ms : List Message) (v : View) → v.inbox ≡ Pull p ∷ ms
-      → Happens sc n v (pull_step sc p (mode_line (Pull p) v) v (rest v ms))
+  pull_happens : (p : ℕ) (v : View) (taken : Front (Pull p) v) → Happens sc n v (pull_step sc p (mode_line (Pull p) v) v (rest v taken.after))
   unfolding pull_step
-  pull_happens p ms v f =
+  pull_happens p v taken =
       elim (pull_line v.me.mode (all_here (with_brought (Pull p) v.me))) [
-        | inl e ↦ subst (λ line. Happens sc n v (pull_step sc p line v (rest v ms))) (sym e)
-            (record { event = Rests refl; told = tt; lost = λ h. never h; strange = λ _. record { message = Pull p; after = ms; front = f; line = e } })
-        | inr h ↦ subst (λ line. Happens sc n v (pull_step sc p line v (rest v ms))) (sym h.1.1) (pull_turns p ms v h.1.0 f h.0)
+        | inl e ↦ subst (λ y. Happens sc n v (pull_step sc p y v (rest v taken.after))) (sym e)
+            (record { event = Rests refl; told = tt; lost = λ h. never h; strange = λ _. record { message = Pull p; taken = taken; line = e } })
+        | inr h ↦ subst (λ y. Happens sc n v (pull_step sc p y v (rest v taken.after))) (sym h.1.1)
+            (pull_turns v (record { page = p; taken = taken }) h.1.0 h.0)
       ]
 
   -- taking a message of each kind
-  message_happens : (m : Message) (ms : List Message) (v : View) → v.inbox ≡ m ∷ ms → Happens sc n v (message_step sc m v (rest v ms))
+  message_happens : (m : Message) (v : View) (taken : Front m v) → Happens sc n v (message_step sc m v (rest v taken.after))
   unfolding message_step
-  message_happens (Wire lows) ms v f = wire_happens lows ms v f
-  message_happens Ready ms v f = ready_happens ms v f
-  message_happens Dual ms v f = dual_happens ms v f
-  message_happens (Pull p) ms v f = pull_happens p ms v f
-  message_happens (Page leaf) ms v f = page_happens leaf ms v f
-  message_happens Finish ms v f = finish_taken ms v f
-  message_happens Done ms v f = done_happens ms v f
+  message_happens (Wire lows) v taken = wire_happens lows v taken
+  message_happens Ready v taken = ready_happens v taken
+  message_happens Dual v taken = dual_happens v taken
+  message_happens (Pull p) v taken = pull_happens p v taken
+  message_happens (Page leaf) v taken = page_happens leaf v taken
+  message_happens Finish v taken = finish_taken v taken
+  message_happens Done v taken = done_happens v taken
 
   -- taking the front of the link, if there is one
   front_happens : (ms : List Message) (v : View) → v.inbox ≡ ms → Happens sc n v (front_step sc ms v)
   unfolding front_step
   front_happens [] v f = rests v _ refl refl
-  front_happens (m ∷ ms) v f = message_happens m ms v f
+  front_happens (m ∷ ms) v f = message_happens m v (record { after = ms; front = f })
 
   -- the lines of a take
   take_happens : (v : View) → Happens sc n v (take_step sc v)
