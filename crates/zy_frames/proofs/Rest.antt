@@ -47,48 +47,37 @@ took m ms now old f e = inr (m, f ∙ ap (λ x. m ∷ x) (sym e))
 sent : (m : Message) (now old : List Message) → now ≡ old ++ m ∷ [] → OneMore old now
 sent m now old e = inr (m, e)
 
+-- what is left by the way to a view is left by the way to an equal one
+along : {v w x : View} → w ≡ x → LeavesTheRest v x → LeavesTheRest v w
+along {v = v} e h = subst (λ z. LeavesTheRest v z) (sym e) h
+
 -- what an event leaves
 event_leaves : (sc : Scenario) (n : Node) (v w : View) → Event sc n v w → LeavesTheRest v w
 unfolding begun did aborted locked shares cut committed asks leaves
-event_leaves sc n v w (Rests e) = subst (λ x. LeavesTheRest v x) (sym e) (keeps v v refl refl refl (inl refl) (inl refl))
-event_leaves sc n v w (Begins line e) = subst (λ x. LeavesTheRest v x) (sym e) (sets v _ refl line.txn _ refl refl refl (inl refl))
-event_leaves sc n v w (Aborts line e) = subst (λ x. LeavesTheRest v x) (sym e) (sets v _ refl line.txn _ refl refl refl (inl refl))
-event_leaves sc n v w (GoesOn line e) = subst (λ x. LeavesTheRest v x) (sym e) (sets v _ refl line.txn _ refl refl refl (inl refl))
-event_leaves sc n v w (Gets line e) = subst (λ x. LeavesTheRest v x) (sym e) (sets v _ refl line.txn _ refl refl refl (inl refl))
-event_leaves sc n v w (SumsUp line e) = subst (λ x. LeavesTheRest v x) (sym e) (sets v _ refl line.txn _ refl refl refl (inl refl))
-event_leaves sc n v w (Writes line e) = subst (λ x. LeavesTheRest v x) (sym e) (sets v _ refl line.txn _ refl refl refl (inl refl))
-event_leaves sc n v w (Inserts line e) = subst (λ x. LeavesTheRest v x) (sym e) (sets v _ refl line.txn _ refl refl refl (inl refl))
-event_leaves sc n v w (Splits line e) =
-    subst (λ x. LeavesTheRest v x) (sym e) (keeps v _ refl refl refl (inl refl) (inl refl))
-event_leaves sc n v w (Commits line e) = subst (λ x. LeavesTheRest v x) (sym e) (sets v _ refl line.txn _ refl refl refl (inr (_, refl)))
-event_leaves sc n v w (Asks line e) =
-    subst (λ x. LeavesTheRest v x) (sym e) (keeps v _ refl refl refl (inl refl) (sent _ _ v.outbox refl))
-event_leaves sc n v w (Starts line e) =
-    subst (λ x. LeavesTheRest v x) (sym e) (keeps v _ refl refl refl (inl refl) (sent _ _ v.outbox refl))
-event_leaves sc n v w (GotWire line e) =
-    subst (λ x. LeavesTheRest v x) (sym e) (keeps v _ refl refl refl (took _ line.after _ v.inbox line.front refl) (sent _ _ v.outbox refl))
-event_leaves sc n v w (GotReady line e) =
-    subst (λ x. LeavesTheRest v x) (sym e) (keeps v _ refl refl refl (took _ line.after _ v.inbox line.front refl) (sent _ _ v.outbox refl))
-event_leaves sc n v w (GotDual line e) =
-    subst (λ x. LeavesTheRest v x) (sym e) (keeps v _ refl refl refl (took _ line.after _ v.inbox line.front refl) (inl refl))
-event_leaves sc n v w (IsStale line e) =
-    subst (λ x. LeavesTheRest v x) (sym e) (keeps v _ refl refl refl (took _ line.after _ v.inbox line.front refl) (inl refl))
-event_leaves sc n v w (Gives line e) =
-    subst (λ x. LeavesTheRest v x) (sym e) (keeps v _ refl refl refl (took _ line.after _ v.inbox line.front refl) (sent _ _ v.outbox refl))
-event_leaves sc n v w (GotPage line e) =
-    subst (λ x. LeavesTheRest v x) (sym e) (keeps v _ refl refl refl (took _ line.after _ v.inbox line.front refl) (inl refl))
-event_leaves sc n v w (GotLast line e) =
-    subst (λ x. LeavesTheRest v x) (sym e) (keeps v _ refl refl refl (took _ line.after _ v.inbox line.front refl) (sent _ _ v.outbox refl))
-event_leaves sc n v w (GotFinish line e) =
-    subst (λ x. LeavesTheRest v x) (sym e) (keeps v _ refl refl refl (took _ line.after _ v.inbox line.front refl) (inl refl))
-event_leaves sc n v w (GotAll line e) =
-    subst (λ x. LeavesTheRest v x) (sym e) (keeps v _ refl refl refl (took _ line.after _ v.inbox line.front refl) (sent _ _ v.outbox refl))
-event_leaves sc n v w (GotDone line e) =
-    subst (λ x. LeavesTheRest v x) (sym e) (keeps v _ refl refl refl (took _ line.after _ v.inbox line.front refl) (inl refl))
-event_leaves sc n v w (Finishes line e) =
-    subst (λ x. LeavesTheRest v x) (sym e) (keeps v _ refl refl refl (inl refl) (sent _ _ v.outbox refl))
-event_leaves sc n v w (Pushes line e) =
-    subst (λ x. LeavesTheRest v x) (sym e) (keeps v _ refl refl refl (inl refl) (sent _ _ v.outbox refl))
+event_leaves sc n v w (Rests e) = along e (keeps v v refl refl refl (inl refl) (inl refl))
+event_leaves sc n v w (Begins line e) = along e (sets v _ refl line.txn _ refl refl refl (inl refl))
+event_leaves sc n v w (Aborts line e) = along e (sets v _ refl line.txn _ refl refl refl (inl refl))
+event_leaves sc n v w (GoesOn line e) = along e (sets v _ refl line.txn _ refl refl refl (inl refl))
+event_leaves sc n v w (Gets line e) = along e (sets v _ refl line.txn _ refl refl refl (inl refl))
+event_leaves sc n v w (SumsUp line e) = along e (sets v _ refl line.txn _ refl refl refl (inl refl))
+event_leaves sc n v w (Writes line e) = along e (sets v _ refl line.txn _ refl refl refl (inl refl))
+event_leaves sc n v w (Inserts line e) = along e (sets v _ refl line.txn _ refl refl refl (inl refl))
+event_leaves sc n v w (Splits line e) = along e (keeps v _ refl refl refl (inl refl) (inl refl))
+event_leaves sc n v w (Commits line e) = along e (sets v _ refl line.txn _ refl refl refl (inr (_, refl)))
+event_leaves sc n v w (Asks line e) = along e (keeps v _ refl refl refl (inl refl) (sent _ _ v.outbox refl))
+event_leaves sc n v w (Starts line e) = along e (keeps v _ refl refl refl (inl refl) (sent _ _ v.outbox refl))
+event_leaves sc n v w (GotWire line e) = along e (keeps v _ refl refl refl (took _ line.after _ v.inbox line.front refl) (sent _ _ v.outbox refl))
+event_leaves sc n v w (GotReady line e) = along e (keeps v _ refl refl refl (took _ line.after _ v.inbox line.front refl) (sent _ _ v.outbox refl))
+event_leaves sc n v w (GotDual line e) = along e (keeps v _ refl refl refl (took _ line.after _ v.inbox line.front refl) (inl refl))
+event_leaves sc n v w (IsStale line e) = along e (keeps v _ refl refl refl (took _ line.after _ v.inbox line.front refl) (inl refl))
+event_leaves sc n v w (Gives line e) = along e (keeps v _ refl refl refl (took _ line.after _ v.inbox line.front refl) (sent _ _ v.outbox refl))
+event_leaves sc n v w (GotPage line e) = along e (keeps v _ refl refl refl (took _ line.after _ v.inbox line.front refl) (inl refl))
+event_leaves sc n v w (GotLast line e) = along e (keeps v _ refl refl refl (took _ line.after _ v.inbox line.front refl) (sent _ _ v.outbox refl))
+event_leaves sc n v w (GotFinish line e) = along e (keeps v _ refl refl refl (took _ line.after _ v.inbox line.front refl) (inl refl))
+event_leaves sc n v w (GotAll line e) = along e (keeps v _ refl refl refl (took _ line.after _ v.inbox line.front refl) (sent _ _ v.outbox refl))
+event_leaves sc n v w (GotDone line e) = along e (keeps v _ refl refl refl (took _ line.after _ v.inbox line.front refl) (inl refl))
+event_leaves sc n v w (Finishes line e) = along e (keeps v _ refl refl refl (inl refl) (sent _ _ v.outbox refl))
+event_leaves sc n v w (Pushes line e) = along e (keeps v _ refl refl refl (inl refl) (sent _ _ v.outbox refl))
 
 -- a view seen from its node is that view
 pub face : (n : Node) (v : View) → facing n (seen_from n v) ≡ v

@@ -112,8 +112,10 @@ unfolding did locked shares txn_at aborted begun committed cut asks leaves
 fate sc n v w u (Begins line e) = fate_set sc v w line.txn u _ (ap txns_of e) (Fresh refl refl refl)
 fate sc n v w u (Aborts line e) = fate_set sc v w line.txn u _ (ap txns_of e) (Ends (omega arith) refl refl)
 fate sc n v w u (GoesOn line e) =
-    fate_set sc v w line.txn u _ (ap txns_of e) (Went refl (leads_length line.act (txn_at v line.txn) line.pc line.regs line.leads) (leads_pc sc n line.txn line.act v line.runs line.leads))
-fate sc n v w u (Gets line e) = fate_set sc v w line.txn u _ (ap txns_of e) (Went refl (set_length (txn_at v line.txn).regs line.register _) (next_pc sc n line.txn _ v line.runs refl))
+    fate_set sc v w line.txn u _ (ap txns_of e) (Went refl
+    (leads_length line.act (txn_at v line.txn) line.pc line.regs line.leads) (leads_pc sc n line.txn line.act v line.runs line.leads))
+fate sc n v w u (Gets line e) =
+    fate_set sc v w line.txn u _ (ap txns_of e) (Went refl (set_length (txn_at v line.txn).regs line.register _) (next_pc sc n line.txn _ v line.runs refl))
 fate sc n v w u (SumsUp line e) =
     fate_set sc v w line.txn u _ (ap txns_of e) (Went refl (set_length (txn_at v line.txn).regs line.register _) (next_pc sc n line.txn _ v line.runs refl))
 fate sc n v w u (Writes line e) = fate_set sc v w line.txn u _ (ap txns_of e) (Went refl refl (next_pc sc n line.txn _ v line.runs refl))

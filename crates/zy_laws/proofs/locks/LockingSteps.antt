@@ -142,15 +142,15 @@ kept_event sc n v w lows two o k i (Begins line e) = along e i (begun_event sc n
 kept_event sc n v w lows two o k i (Aborts line e) = along e i (aborted_kept sc n v lows line.txn k (line.active, line.here) line.cause)
 kept_event sc n v w lows two o k i (GoesOn line e) = along e i (goes_kept sc n v lows line.txn k (is_at line.runs) line.pc line.regs)
 kept_event sc n v w lows two o k i (SumsUp line e) = along e i (sum_kept sc n v lows line.txn k (is_at line.runs) line.first line.last _ _ line.free)
-kept_event sc n v w lows two o k i (Gets line e) =
-    along e i (lock_kept sc n v lows line.txn k (is_at line.runs) line.key Shared _ _ _ line.free (λ j h. inl h))
+kept_event sc n v w lows two o k i (Gets line e) = along e i (lock_kept sc n v lows line.txn k (is_at line.runs) line.key Shared _ _ _ line.free (λ j h. inl h))
 kept_event sc n v w lows two o k i (Writes line e) =
     along e i (lock_kept sc n v lows line.txn k (is_at line.runs) line.key Exclusive _ _ _ line.free (grown line.key line.value (txn_at v line.txn).rows))
 kept_event sc n v w lows two o k i (Inserts line e) =
     along e i (lock_kept sc n v lows line.txn k (is_at line.runs) line.key Exclusive _ _ _ line.free (grown line.key line.value (txn_at v line.txn).rows))
 kept_event sc n v w lows two o k i (Splits line e) =
     let at : IsAt v line.txn n = (is_at line.runs) in
-    let fresh = split_new sc n v lows line.txn k at line.key two (rows_at (page line.key v) v.me.pages o.mine.rows) (o.private line.txn) line.absent line.full in
+    let committed = rows_at (page line.key v) v.me.pages o.mine.rows in
+    let fresh = split_new sc n v lows line.txn k at line.key two committed (o.private line.txn) line.absent line.full in
     along e i (cut_kept sc n v lows line.txn k at line.key _ line.free line.normal (split_on sc n v lows line.txn k at line.key line.full) fresh)
 kept_event sc n v w lows two o k i (Commits line e) = along e i (committed_kept sc n v lows line.txn k (is_at line.runs))
 kept_event sc n v w lows two o k i (Asks line e) = along e i (asks_kept sc n v lows k line.page)
@@ -162,13 +162,15 @@ kept_event sc n v w lows two o k i (GotWire line e) =
     (steady sc n v.me _ v _ lows k.mine (seen_same n v _ refl) refl (λ t at. refl) (λ _. from.0 ∙ k.theirs.newest (ap is_idle from.1))
     (λ p t _ h. k.mine.kept p t (inr (ap is_source line.empty)) h)))
 kept_event sc n v w lows two o k i (GotReady line e) =
-    along e i (turned_kept sc n v lows k (ap is_idle line.mode) refl (still_source sc v.me.mode SDual refl) (ap sent_leaves (sym line.front)) (sent_bare v.outbox Dual refl))
+    along e i (turned_kept sc n v lows k (ap is_idle line.mode) refl (still_source sc v.me.mode SDual refl) (ap sent_leaves (sym line.front))
+    (sent_bare v.outbox Dual refl))
 kept_event sc n v w lows two o k i (GotDual line e) =
     along e i (turned_kept sc n v lows k (ap is_idle line.mode) refl (λ _. inr (ap is_source line.mode)) (ap sent_leaves (sym line.front)) refl)
 kept_event sc n v w lows two o k i (IsStale line e) =
     along e i (links_kept sc n v lows k refl (ap sent_leaves (sym line.front)) refl (untouched sc n v.me v _ lows k.mine (seen_same n v _ refl)))
 kept_event sc n v w lows two o k i (Gives line e) =
-    along e i (leaves_kept sc n v lows k line.page line.after (ap sent_leaves (sym line.front)) line.own (give_free sc v line.page (sends_source v.me.mode line.sends) line.free))
+    along e i (leaves_kept sc n v lows k line.page line.after (ap sent_leaves (sym line.front)) line.own
+    (give_free sc v line.page (sends_source v.me.mode line.sends) line.free))
 kept_event sc n v w lows two o k i (GotPage line e) =
     along e i (node_kept sc n v lows k (arrived_placed lows v line.leaf line.after line.front k.placed)
     (steady sc n v.me _ v _ lows k.mine (seen_same n v _ refl) refl k.mine.busy k.mine.newest
@@ -181,7 +183,8 @@ kept_event sc n v w lows two o k i (GotLast line e) =
 kept_event sc n v w lows two o k i (GotFinish line e) =
     along e i (turned_kept sc n v lows k (ap is_idle line.mode) refl (λ _. inr (ap is_source line.mode)) (ap sent_leaves (sym line.front)) refl)
 kept_event sc n v w lows two o k i (GotAll line e) =
-    along e i (turned_kept sc n v lows k (ap is_idle line.mode) refl (λ _. inr (ap is_source line.mode)) (ap sent_leaves (sym line.front)) (sent_bare v.outbox Done refl))
+    along e i (turned_kept sc n v lows k (ap is_idle line.mode) refl (λ _. inr (ap is_source line.mode)) (ap sent_leaves (sym line.front))
+    (sent_bare v.outbox Done refl))
 kept_event sc n v w lows two o k i (GotDone line e) =
     along e i (links_kept sc n v lows k refl (ap sent_leaves (sym line.front)) refl
     (idle_locking sc n v.me _ v _ lows lows k.mine (ap is_idle line.mode) refl refl refl))
@@ -190,5 +193,4 @@ kept_event sc n v w lows two o k i (Finishes line e) =
     (steady sc n v.me _ v _ lows k.mine (seen_same n v _ refl) refl (λ t at. absurd (no_active n v t line.idle at)) (λ h. absurd (false≢true (sym h)))
     (λ p t s h. k.mine.kept p t (still_source sc v.me.mode SFinish refl s) h)))
 kept_event sc n v w lows two o k i (Pushes line e) =
-    along e i
-    (leaves_kept sc n v lows k line.page v.inbox refl line.own (λ s q t h same. nobody_runs sc n v.me v lows t k.mine (ap is_idle line.finish) (k.mine.runs q t h)))
+    along e i (leaves_kept sc n v lows k line.page v.inbox refl line.own (λ s q t h same. nobody_runs sc n v.me v lows t k.mine (ap is_idle line.finish) (k.mine.runs q t h)))

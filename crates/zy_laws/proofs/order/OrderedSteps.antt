@@ -124,7 +124,8 @@ ordered_event sc n v w i o (Inserts line e) = rw e (puts_ordered line.txn v o li
 ordered_event sc n v w i o (Splits line e) =
     let x = has_lock line.txn line.key Exclusive v in
     let b = boundary sc line.key (page line.key v) v.me (txn_at v line.txn) in
-    rw e (cut_ordered line.txn (page line.key v) b x (has_lock_ordered v o line.txn line.key Exclusive) (has_lock_inv line.txn line.key Exclusive v i) line.normal)
+    rw e (cut_ordered line.txn (page line.key v) b x (has_lock_ordered v o line.txn line.key Exclusive)
+    (has_lock_inv line.txn line.key Exclusive v i) line.normal)
 ordered_event sc n v w i o (Commits line e) = rw e (committed_ordered line.txn v o)
 ordered_event sc n v w i o (Asks line e) = rw e (asks_ordered v o line.page line.unasked)
 ordered_event sc n v w i o (Starts line e) = rw e (kept_ordered v o refl (sent_bare v.outbox (Wire v.me.lows) refl) refl)
@@ -135,7 +136,8 @@ ordered_event sc n v w i o (GotDual line e) = rw e (kept_ordered v o (ap sent_le
 ordered_event sc n v w i o (IsStale line e) = rw e (kept_ordered v o (ap sent_leaves (sym line.front)) refl refl)
 ordered_event sc n v w i o (Gives line e) =
     let x = rest v line.after in
-    rw e (leaves_ordered line.page x (pulled_inv v i line.page line.after line.front).owned (kept_ordered v o (ap sent_leaves (sym line.front)) refl refl) line.own)
+    let pulled = pulled_inv v i line.page line.after line.front in
+    rw e (leaves_ordered line.page x pulled.owned (kept_ordered v o (ap sent_leaves (sym line.front)) refl refl) line.own)
 ordered_event sc n v w i o (GotPage line e) = rw e (arrived_ordered v line.leaf line.after i.owned o line.front)
 ordered_event sc n v w i o (GotLast line e) =
     let x = arrived line.leaf (rest v line.after) in

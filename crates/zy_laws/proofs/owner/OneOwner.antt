@@ -34,7 +34,8 @@ pub inv_event : (sc : Scenario) (n : Node) (v w : View) → Inv v → Event sc n
 unfolding did locked shares txn_at aborted begun committed
 inv_event sc n v w i (Splits line e) =
     let locked = locks_inv v (has_lock line.txn line.key Exclusive v) (refl, refl, refl) refl refl refl i in
-    rw e (cut_inv line.txn (page line.key v) (boundary sc line.key (page line.key v) v.me (txn_at v line.txn)) (has_lock line.txn line.key Exclusive v) line.normal locked)
+    let low = boundary sc line.key (page line.key v) v.me (txn_at v line.txn) in
+    rw e (cut_inv line.txn (page line.key v) low (has_lock line.txn line.key Exclusive v) line.normal locked)
 inv_event sc n v w i (Commits line e) = rw e (shape_inv v _ (record {
   mode = refl;
   lows = refl;

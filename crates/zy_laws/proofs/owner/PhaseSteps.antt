@@ -42,23 +42,16 @@ lows_same g lows s h = s.lows ∙ h
 
 -- a source of the same shape keeps the phase
 pub source_same : {x y dst : NodeState} {out back : List Message} → SameShape x y → Phase x dst out back → Phase y dst out back
-source_same {dst = dst} {out = out} s (Is g at) = Is g (record {
-  source = s.mode ∙ at.source;
-  destination = at.destination;
-  lows = subst (λ lows. Lows g lows dst) (sym s.lows) at.lows;
-  out = subst (λ lows. Out g lows out) (sym s.lows) at.out;
-  back = at.back;
-})
+source_same {dst = dst} {out = out} s (Is g at) =
+    let lows = subst (λ lows. Lows g lows dst) (sym s.lows) at.lows in
+    let sent = subst (λ lows. Out g lows out) (sym s.lows) at.out in
+    Is g (record { source = s.mode ∙ at.source; destination = at.destination; lows = lows; out = sent; back = at.back })
 
 -- a destination of the same shape keeps the phase
 pub destination_same : {src x y : NodeState} {out back : List Message} → SameShape x y → Phase src x out back → Phase src y out back
-destination_same {src = src} s (Is g at) = Is g (record {
-  source = at.source;
-  destination = s.mode ∙ at.destination;
-  lows = lows_same g src.lows s at.lows;
-  out = at.out;
-  back = at.back;
-})
+destination_same {src = src} s (Is g at) =
+    let lows = lows_same g src.lows s at.lows in
+    Is g (record { source = at.source; destination = s.mode ∙ at.destination; lows = lows; out = at.out; back = at.back })
 
 -- a list that begins one that begins a third begins the third
 begins_further : (xs ys zs : List ℕ) → Begins xs ys → Begins ys zs → Begins xs zs

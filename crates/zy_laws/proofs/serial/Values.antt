@@ -54,7 +54,8 @@ event_db sc n v w lows k (Commits line e) c = absurd (no_longer v.commits _ (sym
 event_db sc n v w lows k (Gives line e) c = ap db e ∙ leaves_db lows v line.page line.after k.placed k.inv.owned (ap sent_leaves (sym line.front)) line.own
 event_db sc n v w lows k (GotPage line e) c = ap db e ∙ arrived_db lows v line.leaf line.after line.front k.placed k.inv.owned
 event_db sc n v w lows k (GotLast line e) c =
-    ap db e ∙ same_db (arrived line.leaf (rest v line.after)) (post Done (turns Normal (arrived line.leaf (rest v line.after)))) refl refl refl (sent_bare v.outbox Done refl)
+    let x = arrived line.leaf (rest v line.after) in
+    ap db e ∙ same_db x (post Done (turns Normal x)) refl refl refl (sent_bare v.outbox Done refl)
     ∙ arrived_db lows v line.leaf line.after line.front k.placed k.inv.owned
 event_db sc n v w lows k (Pushes line e) c = ap db e ∙ leaves_db lows v line.page v.inbox k.placed k.inv.owned refl line.own
 event_db sc n v w lows k e c = let q = unmoved_of e refl in same_db v w q.pages (ap (λ (x : NodeState). x.pages) q.them) q.inbox q.outbox

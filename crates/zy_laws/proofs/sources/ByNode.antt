@@ -177,8 +177,7 @@ onward : {sc : Scenario} {n : Node} (v w : View) (e : Event sc n v w) → sorts 
 unfolding asks leaves cut locked Onward
 onward v w (Commits line e) h i off = absurd (false≢true (sym h))
 onward v w (Starts line e) h i off = absurd (false≢true (sym h))
-onward v w (GotWire line e) h i off =
-    absurd (false≢true (sym off ∙ ap is_source (wire_front v line.lows line.after line.front line.empty i.roles).1))
+onward v w (GotWire line e) h i off = absurd (false≢true (sym off ∙ ap is_source (wire_front v line.lows line.after line.front line.empty i.roles).1))
 onward v w (GotReady line e) h i off = next_mode v.me.mode w.me.mode SInit line.mode (λ b. cc) (ap (λ (x : View). is_or_was_source x.me.mode) e)
 onward v w (GotDual line e) h i off = other_mode v.me.mode w.me.mode DInit line.mode (λ b. cc) refl
 onward v w (GotLast line e) h i off = other_mode v.me.mode w.me.mode DFinish line.mode (λ b. cc) refl

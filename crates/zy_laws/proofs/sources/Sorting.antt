@@ -28,8 +28,9 @@ use Rattle.zy_laws.proofs.sources.Ending.{held_commit, last_commit, source_commi
 use Rattle.zy_laws.proofs.sources.Going.{aborted_divided, begun_divided, cut_divided, goes_divided, key_divided, mine_on, range_divided, read_on}
 use Rattle.zy_laws.proofs.sources.Going.{starts_divided, stays_divided, sum_on, there_on}
 use Rattle.zy_laws.proofs.sources.Halves.{Divided}
-use Rattle.zy_laws.proofs.walk.Events.{Event, Rests, Begins, Aborts, GoesOn, Gets, SumsUp, Writes, Inserts, Splits, Commits, Asks, Starts, GotWire, GotReady, is_at}
-use Rattle.zy_laws.proofs.walk.Events.{Starting, GotDual, IsStale, Gives, GotPage, GotLast, GotFinish, GotAll, GotDone, Finishes, Pushes, lows_after, sum_at, value_at}
+use Rattle.zy_laws.proofs.walk.Events.{Event, Rests, Begins, Aborts, GoesOn, Gets, SumsUp, Writes, Inserts, Splits, Commits, Asks, Starts, GotWire, GotReady}
+use Rattle.zy_laws.proofs.walk.Events.{GotDual, IsStale, Gives, GotPage, GotLast, GotFinish, GotAll, GotDone, Finishes, Pushes}
+use Rattle.zy_laws.proofs.walk.Events.{Starting, is_at, lows_after, sum_at, value_at}
 use Rattle.zy_laws.proofs.walk.Kinds.{Quiet, of_txn, quiet_of}
 
 -- a page that was not here is not here without another one
@@ -126,10 +127,12 @@ keeps_event sc n v w start lows o s (Commits line e) h k = absurd (false≢true 
 keeps_event sc n v w start lows o s (Starts line e) h k = absurd (false≢true (sym h))
 keeps_event sc n v w start lows o s (Begins line e) h k = along e k (begun_divided sc n v start lows o s line.txn line.home line.new)
 keeps_event sc n v w start lows o s (Aborts line e) h k = along e k (aborted_divided sc n v start lows o s line.txn line.cause (line.active, line.here))
-keeps_event sc n v w start lows o s (GoesOn line e) h k = along e k (goes_divided sc n v start lows o s line.txn line.act line.pc line.regs line.runs line.leads)
+keeps_event sc n v w start lows o s (GoesOn line e) h k =
+    along e k (goes_divided sc n v start lows o s line.txn line.act line.pc line.regs line.runs line.leads)
 keeps_event sc n v w start lows o s (SumsUp line e) h k = along e k
     (range_divided sc n v start lows o s line.txn line.first line.last _ _ (effect.Sums line.register line.first line.last) line.runs (λ keys.
-    small_sum (mine_on sc n v start lows o s) line.register line.first line.last (txn_at v line.txn) keys (sum_at line.txn line.first line.last v) line.free.rises line.free.small
+    small_sum (mine_on sc n v start lows o s) line.register line.first line.last (txn_at v line.txn) keys
+    (sum_at line.txn line.first line.last v) line.free.rises line.free.small
     (sum_on sc n v start lows o s line.txn line.first line.last (is_at line.runs) line.free)))
 keeps_event sc n v w start lows o s (Gets line e) h k = along e k
     (key_divided sc n v start lows o s line.txn line.key Shared _ _ _ (effect.Accesses (Reads line.register) line.key) line.runs (λ keys.

@@ -87,8 +87,7 @@ pulls_busy m s = elim (pulls_in m s) [ inl e ↦ ap is_idle e | inr e ↦ ap is_
 asked_event : (sc : Scenario) (n : Node) (o : Outcome) (v w : View) (lows : List ℕ) → Kept sc n v lows → Asked v.me → (e : Event sc n v w) → Told e o
     → Asked w.me
 unfolding did locked shares txn_at aborted begun committed cut asks leaves
-asked_event sc n o v w lows k a (Splits line e) told =
-    rw e (asked_none _ (a.none (ap may_pull (splits_in_normal v.me.mode line.normal))))
+asked_event sc n o v w lows k a (Splits line e) told = rw e (asked_none _ (a.none (ap may_pull (splits_in_normal v.me.mode line.normal))))
 asked_event sc n o v w lows k a (Commits line e) told =
     rw e (asked_same v.me _ refl refl refl (λ p. owns-installed v.me.lows (txn_at v line.txn).rows v.me.pages p) a)
 asked_event sc n o v w lows k a (Asks line e) told =

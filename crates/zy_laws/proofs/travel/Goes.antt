@@ -157,12 +157,14 @@ unfolding did locked shares txn_at aborted begun committed asks
 goes_event sc n o v w p i (Splits line e) told =
     let x = has_lock line.txn line.key Exclusive v in
     let locked = locks_inv v x (refl, refl, refl) refl refl refl i in
-    rw e (from_same p n o v x _ refl refl (cut_goes p n o x line.txn (page line.key v) (boundary sc line.key (page line.key v) v.me (txn_at v line.txn)) locked line.normal told))
+    let low = boundary sc line.key (page line.key v) v.me (txn_at v line.txn) in
+    rw e (from_same p n o v x _ refl refl (cut_goes p n o x line.txn (page line.key v) low locked line.normal told))
 goes_event sc n o v w p i (Commits line e) told = rw e (stays p n o v _ (owns-installed v.me.lows (txn_at v line.txn).rows v.me.pages p) refl refl refl)
 goes_event sc n o v w p i (Gives line e) told =
     let x = rest v line.after in
     let same = same_place p n x v refl refl refl (ap (λ xs. owns (sent_leaves xs) p) line.front) in
-    rw e (from_same p n o v x _ same refl (leaves_goes p n o x line.page (pulled_inv v i line.page line.after line.front).owned (sends_source v.me.mode line.sends) line.own))
+    let pulled = pulled_inv v i line.page line.after line.front in
+    rw e (from_same p n o v x _ same refl (leaves_goes p n o x line.page pulled.owned (sends_source v.me.mode line.sends) line.own))
 goes_event sc n o v w p i (GotPage line e) told = rw e (arrives_goes p n o v line.leaf line.after i.owned line.pulls line.front refl refl)
 goes_event sc n o v w p i (GotLast line e) told =
     rw e (arrives_goes p n o v line.leaf line.after i.owned (ap may_pull line.mode) line.front refl (sent_bare v.outbox Done refl))

@@ -566,7 +566,8 @@ module _ (sc : Scenario) (n : Node) where
   unfolding start_step
   start_happens v at_a =
       cond_both (may_start v.me.mode v.them.mode) _ _ (Happens sc n v)
-      (λ h. let modes = starts_from v.me.mode v.them.mode h in plain v _ (Starts (record { at_a = at_a; normal = modes.0; empty = modes.1 }) refl) refl refl refl)
+      (λ h. let modes = starts_from v.me.mode v.them.mode h in
+      plain v _ (Starts (record { at_a = at_a; normal = modes.0; empty = modes.1 }) refl) refl refl refl)
       (λ _. rests v _ refl refl)
 
   -- the lines of a kill

@@ -80,13 +80,11 @@ unfolding did locked shares aborted begun
 in_place_of (Rests e) h = rw e (record { mode = refl; lows = refl; pages = refl; asked = refl; them = refl; inbox = refl; outbox = refl })
 in_place_of (Begins line e) h = rw e (record { mode = refl; lows = refl; pages = refl; asked = refl; them = refl; inbox = refl; outbox = refl })
 in_place_of (Aborts line e) h = rw e (record { mode = refl; lows = refl; pages = refl; asked = refl; them = refl; inbox = refl; outbox = refl })
-in_place_of (GoesOn line e) h =
-    rw e (record { mode = refl; lows = refl; pages = refl; asked = refl; them = refl; inbox = refl; outbox = refl })
+in_place_of (GoesOn line e) h = rw e (record { mode = refl; lows = refl; pages = refl; asked = refl; them = refl; inbox = refl; outbox = refl })
 in_place_of (Gets line e) h = rw e (record { mode = refl; lows = refl; pages = refl; asked = refl; them = refl; inbox = refl; outbox = refl })
 in_place_of (SumsUp line e) h = rw e (record { mode = refl; lows = refl; pages = refl; asked = refl; them = refl; inbox = refl; outbox = refl })
 in_place_of (Writes line e) h = rw e (record { mode = refl; lows = refl; pages = refl; asked = refl; them = refl; inbox = refl; outbox = refl })
-in_place_of (Inserts line e) h =
-    rw e (record { mode = refl; lows = refl; pages = refl; asked = refl; them = refl; inbox = refl; outbox = refl })
+in_place_of (Inserts line e) h = rw e (record { mode = refl; lows = refl; pages = refl; asked = refl; them = refl; inbox = refl; outbox = refl })
 in_place_of e h = absurd (false≢true h)
 
 -- the event moves no page, and changes no row of one
@@ -119,7 +117,8 @@ unmoved_of {v = v} (Asks line e) h = rw e (record { pages = refl; them = refl; i
 unmoved_of {v = v} (Starts line e) h = rw e (record { pages = refl; them = refl; inbox = refl; outbox = sent_bare v.outbox (Wire v.me.lows) refl })
 unmoved_of {v = v} (GotWire line e) h =
     rw e (record { pages = refl; them = refl; inbox = ap sent_leaves (sym line.front); outbox = sent_bare v.outbox Ready refl })
-unmoved_of {v = v} (GotReady line e) h = rw e (record { pages = refl; them = refl; inbox = ap sent_leaves (sym line.front); outbox = sent_bare v.outbox Dual refl })
+unmoved_of {v = v} (GotReady line e) h =
+    rw e (record { pages = refl; them = refl; inbox = ap sent_leaves (sym line.front); outbox = sent_bare v.outbox Dual refl })
 unmoved_of (GotDual line e) h = rw e (record { pages = refl; them = refl; inbox = ap sent_leaves (sym line.front); outbox = refl })
 unmoved_of (IsStale line e) h = rw e (record { pages = refl; them = refl; inbox = ap sent_leaves (sym line.front); outbox = refl })
 unmoved_of (GotFinish line e) h = rw e (record { pages = refl; them = refl; inbox = ap sent_leaves (sym line.front); outbox = refl })
