@@ -1,5 +1,5 @@
 -- What a phase says of the two wireframes, and of one that is on its way.
-use Rattle.std.proofs.Common.{◌≡◌, ℕ, List, [], ◌∷◌, true, false, refl, sym, ap, ◌∙◌, subst, inl, inr, append-nil}
+use Rattle.std.proofs.Common.{◌≡◌, arith, ℕ, List, [], ◌∷◌, true, false, refl, sym, ap, ◌∙◌, subst, inl, inr, append-nil}
 use Rattle.std.specs.Prelude.{◌⊎◌}
 use Rattle.std.proofs.lemmas.Bool.{false≢true}
 use Rattle.zy_model.specs.Families.{is_source}
@@ -7,41 +7,15 @@ use Rattle.zy_isa.specs.Scenario.{Scenario}
 use Rattle.zy_isa.specs.declared.choice.Choice.{Choice}
 use Rattle.zy_isa.specs.declared.node.Node.{Node}
 use Rattle.zy_model.specs.declared.mode.NodeMode.TheVariants.{Normal}
-use Rattle.zy_model.specs.Messages.{Dual, Pull, Page, Finish, Done}
+use Rattle.zy_model.specs.Messages.{Wire, Dual, Pull, Page, Finish, Done}
 use Rattle.zy_laws.specs.Journey.{Begins, OneWireframe, Sent, Wireframes}
 use Rattle.zy_table.specs.Play.{opening, play}
 use Rattle.zy_table.specs.State.{Message, NodeState, View, facing}
 use Rattle.zy_laws.proofs.owner.OneOwner.{inv_from, play_inv}
-use Rattle.zy_laws.proofs.owner.Phases.{AllPages, AllPulls, Back, DualThen, Is, Lows, Out, PagesAndFinish, Phase, PullsAndDone, Stage}
+use Rattle.zy_laws.proofs.owner.Phases.{Back, Is, Lows, Out, Phase, Stage}
 use Rattle.zy_laws.proofs.owner.Phases.{destination_mode, source_mode}
-use Rattle.zy_laws.proofs.owner.Phases.{Resting, Wire_sent, Dual_sent, Both_sent, In_dual, Finish_sent, In_finish, Done_sent}
+use Rattle.zy_laws.proofs.owner.Phases.{Resting, Wire_sent, Ready_sent, Dual_sent, Both_sent, In_dual, Finish_sent, In_finish, Done_sent}
 use Rattle.zy_laws.proofs.owner.Roles.{Destination, Roles, Source}
-
--- links without a wireframe
-pages_sent : (x : NodeState) (ms : List Message) → AllPages ms → Sent x ms
-pages_sent x [] h = tt
-pages_sent x (Page leaf ∷ ms) h = pages_sent x ms h
-pages_sent x ms h = absurd h
-
--- on a link of pages and a finish is no wireframe
-finish_sent : (x : NodeState) (ms : List Message) → PagesAndFinish ms → Sent x ms
-finish_sent x [] h = tt
-finish_sent x (Page leaf ∷ ms) h = finish_sent x ms h
-finish_sent x (Finish ∷ ms) h = pages_sent x ms h
-finish_sent x ms h = absurd h
-
--- on a link of pulls is no wireframe
-pulls_sent : (x : NodeState) (ms : List Message) → AllPulls ms → Sent x ms
-pulls_sent x [] h = tt
-pulls_sent x (Pull p ∷ ms) h = pulls_sent x ms h
-pulls_sent x ms h = absurd h
-
--- on a link of pulls and a done is no wireframe
-done_sent : (x : NodeState) (ms : List Message) → PullsAndDone ms → Sent x ms
-done_sent x [] h = tt
-done_sent x (Pull p ∷ ms) h = done_sent x ms h
-done_sent x (Done ∷ ms) h = subst (Sent x) (sym h) tt
-done_sent x ms h = absurd h
 
 -- the low keys of source and destination
 record Framed (src dst : NodeState) (out back : List Message) : Type 0 where
@@ -55,11 +29,6 @@ record Framed (src dst : NodeState) (out back : List Message) : Type 0 where
 -- a list begins itself
 pub no_more : (xs ys : List ℕ) → ys ≡ xs → Begins xs ys
 no_more xs ys e = record { more = []; is = e ∙ sym (append-nil xs) }
-
--- on a link that begins with a dual is no wireframe, where none is behind it
-dual_sent : (x : NodeState) (P : List Message → Type 0) → ((ms : List Message) → P ms → Sent x ms) → (ms : List Message) → DualThen P ms → Sent x ms
-dual_sent x P behind (Dual ∷ ms) h = behind ms h
-dual_sent x P behind ms h = absurd h
 
 -- a destination with low keys has a source beside it
 one_at : (g : Stage) (lows : List ℕ) (dst : NodeState) → Lows g lows dst → (dst.lows ≡ []) ⊎ (is_source (source_mode g) ≡ true)
@@ -87,21 +56,26 @@ same_at g lows dst h = inr (inr h)
 
 -- a wireframe on its way to the destination is the source's
 sent_at : (g : Stage) (src : NodeState) (ms : List Message) → src.mode ≡ source_mode g → Out g src.lows ms → Sent src ms
-sent_at Wire_sent src ms mode h = subst (Sent src) (sym h) (ap is_source mode, refl, tt)
-sent_at Dual_sent src ms mode h = dual_sent src AllPages (pages_sent src) ms h
-sent_at Both_sent src ms mode h = dual_sent src PagesAndFinish (finish_sent src) ms h
-sent_at In_dual src ms mode h = pages_sent src ms h
-sent_at Finish_sent src ms mode h = finish_sent src ms h
-sent_at In_finish src ms mode h = pages_sent src ms h
-sent_at g src ms mode h = subst (Sent src) (sym h) tt
+sent_at g src [] mode h = tt
+sent_at Wire_sent src (Wire lows ∷ ms) mode h = subst (Sent src) (sym h) (ap is_source mode, refl, tt)
+sent_at Dual_sent src (Dual ∷ ms) mode h = sent_at In_dual src ms mode h
+sent_at Both_sent src (Dual ∷ ms) mode h = sent_at Finish_sent src ms mode h
+sent_at In_dual src (Page leaf ∷ ms) mode h = sent_at In_dual src ms mode h
+sent_at Finish_sent src (Page leaf ∷ ms) mode h = sent_at Finish_sent src ms mode h
+sent_at Finish_sent src (Finish ∷ ms) mode h = sent_at In_finish src ms mode h
+sent_at In_finish src (Page leaf ∷ ms) mode h = sent_at In_finish src ms mode h
+sent_at g src (m ∷ ms) mode h = grind (arith, h)
 
 -- none goes back
 back_at : (g : Stage) (dst : NodeState) (ms : List Message) → Back g ms → Sent dst ms
-back_at In_dual dst ms h = pulls_sent dst ms h
-back_at Finish_sent dst ms h = pulls_sent dst ms h
-back_at In_finish dst ms h = pulls_sent dst ms h
-back_at Done_sent dst ms h = done_sent dst ms h
-back_at g dst ms h = subst (Sent dst) (sym h) tt
+back_at g dst [] h = tt
+back_at Ready_sent dst ms h = subst (Sent dst) (sym h) tt
+back_at In_dual dst (Pull p ∷ ms) h = back_at In_dual dst ms h
+back_at Finish_sent dst (Pull p ∷ ms) h = back_at Finish_sent dst ms h
+back_at In_finish dst (Pull p ∷ ms) h = back_at In_finish dst ms h
+back_at Done_sent dst (Pull p ∷ ms) h = back_at Done_sent dst ms h
+back_at Done_sent dst (Done ∷ ms) h = subst (Sent dst) (sym h) tt
+back_at g dst (m ∷ ms) h = grind (arith, h)
 
 -- each phase of a migration is framed
 framed : (src dst : NodeState) (out back : List Message) → Phase src dst out back → Framed src dst out back
