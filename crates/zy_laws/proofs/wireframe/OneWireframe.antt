@@ -41,7 +41,7 @@ last_at Resting = refl
 last_at g = refl
 
 -- the source's low keys begin the destination's, if it has any
-pub begins_at : (g : Stage) (lows : List ℕ) (dst : NodeState) → Lows g lows dst → (dst.lows ≡ []) ⊎ Begins lows dst.lows
+begins_at : (g : Stage) (lows : List ℕ) (dst : NodeState) → Lows g lows dst → (dst.lows ≡ []) ⊎ Begins lows dst.lows
 begins_at Resting lows dst h = inl h
 begins_at Wire_sent lows dst h = inl h
 begins_at Done_sent lows dst h = inr h.begins
