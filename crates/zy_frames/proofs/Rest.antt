@@ -47,48 +47,37 @@ took m ms now old f e = inr (m, f ∙ ap (λ x. m ∷ x) (sym e))
 sent : (m : Message) (now old : List Message) → now ≡ old ++ m ∷ [] → OneMore old now
 sent m now old e = inr (m, e)
 
+-- what is left by the way to a view is left by the way to an equal one
+along : {v w x : View} → w ≡ x → LeavesTheRest v x → LeavesTheRest v w
+along {v = v} e h = subst (λ z. LeavesTheRest v z) (sym e) h
+
 -- what an event leaves
 event_leaves : (sc : Scenario) (n : Node) (v w : View) → Event sc n v w → LeavesTheRest v w
 unfolding begun did aborted locked shares cut committed asks leaves
-event_leaves sc n v w (Rests e) = subst (λ x. LeavesTheRest v x) (sym e) (keeps v v refl refl refl (inl refl) (inl refl))
-event_leaves sc n v w (Begins t h a new home e) = subst (λ x. LeavesTheRest v x) (sym e) (sets v _ refl t _ refl refl refl (inl refl))
-event_leaves sc n v w (Aborts t y on at e) = subst (λ x. LeavesTheRest v x) (sym e) (sets v _ refl t _ refl refl refl (inl refl))
-event_leaves sc n v w (GoesOn t x pc regs runs leads e) = subst (λ x. LeavesTheRest v x) (sym e) (sets v _ refl t _ refl refl refl (inl refl))
-event_leaves sc n v w (Gets t r k runs free e) = subst (λ x. LeavesTheRest v x) (sym e) (sets v _ refl t _ refl refl refl (inl refl))
-event_leaves sc n v w (SumsUp t r a b runs free e) = subst (λ x. LeavesTheRest v x) (sym e) (sets v _ refl t _ refl refl refl (inl refl))
-event_leaves sc n v w (Writes t k y runs free there e) = subst (λ x. LeavesTheRest v x) (sym e) (sets v _ refl t _ refl refl refl (inl refl))
-event_leaves sc n v w (Inserts t k y runs free new room e) = subst (λ x. LeavesTheRest v x) (sym e) (sets v _ refl t _ refl refl refl (inl refl))
-event_leaves sc n v w (Splits t k y runs free new full may more e) =
-    subst (λ x. LeavesTheRest v x) (sym e) (keeps v _ refl refl refl (inl refl) (inl refl))
-event_leaves sc n v w (Commits t runs here e) = subst (λ x. LeavesTheRest v x) (sym e) (sets v _ refl t _ refl refl refl (inr (_, refl)))
-event_leaves sc n v w (Asks p gone may new e) =
-    subst (λ x. LeavesTheRest v x) (sym e) (keeps v _ refl refl refl (inl refl) (sent _ _ v.outbox refl))
-event_leaves sc n v w (Starts a normal empty e) =
-    subst (λ x. LeavesTheRest v x) (sym e) (keeps v _ refl refl refl (inl refl) (sent _ _ v.outbox refl))
-event_leaves sc n v w (GotWire lows ms f mode e) =
-    subst (λ x. LeavesTheRest v x) (sym e) (keeps v _ refl refl refl (took _ ms _ v.inbox f refl) (sent _ _ v.outbox refl))
-event_leaves sc n v w (GotReady ms f mode e) =
-    subst (λ x. LeavesTheRest v x) (sym e) (keeps v _ refl refl refl (took _ ms _ v.inbox f refl) (sent _ _ v.outbox refl))
-event_leaves sc n v w (GotDual ms f mode e) =
-    subst (λ x. LeavesTheRest v x) (sym e) (keeps v _ refl refl refl (took _ ms _ v.inbox f refl) (inl refl))
-event_leaves sc n v w (IsStale p ms f e) =
-    subst (λ x. LeavesTheRest v x) (sym e) (keeps v _ refl refl refl (took _ ms _ v.inbox f refl) (inl refl))
-event_leaves sc n v w (Gives p ms f sends own free e) =
-    subst (λ x. LeavesTheRest v x) (sym e) (keeps v _ refl refl refl (took _ ms _ v.inbox f refl) (sent _ _ v.outbox refl))
-event_leaves sc n v w (GotPage leaf ms f may e) =
-    subst (λ x. LeavesTheRest v x) (sym e) (keeps v _ refl refl refl (took _ ms _ v.inbox f refl) (inl refl))
-event_leaves sc n v w (GotLast leaf ms f mode all e) =
-    subst (λ x. LeavesTheRest v x) (sym e) (keeps v _ refl refl refl (took _ ms _ v.inbox f refl) (sent _ _ v.outbox refl))
-event_leaves sc n v w (GotFinish ms f mode e) =
-    subst (λ x. LeavesTheRest v x) (sym e) (keeps v _ refl refl refl (took _ ms _ v.inbox f refl) (inl refl))
-event_leaves sc n v w (GotAll ms f mode all e) =
-    subst (λ x. LeavesTheRest v x) (sym e) (keeps v _ refl refl refl (took _ ms _ v.inbox f refl) (sent _ _ v.outbox refl))
-event_leaves sc n v w (GotDone ms f mode e) =
-    subst (λ x. LeavesTheRest v x) (sym e) (keeps v _ refl refl refl (took _ ms _ v.inbox f refl) (inl refl))
-event_leaves sc n v w (Finishes mode none e) =
-    subst (λ x. LeavesTheRest v x) (sym e) (keeps v _ refl refl refl (inl refl) (sent _ _ v.outbox refl))
-event_leaves sc n v w (Pushes p mode own e) =
-    subst (λ x. LeavesTheRest v x) (sym e) (keeps v _ refl refl refl (inl refl) (sent _ _ v.outbox refl))
+event_leaves sc n v w (Rests e) = along e (keeps v v refl refl refl (inl refl) (inl refl))
+event_leaves sc n v w (Begins line e) = along e (sets v _ refl line.txn _ refl refl refl (inl refl))
+event_leaves sc n v w (Aborts line e) = along e (sets v _ refl line.txn _ refl refl refl (inl refl))
+event_leaves sc n v w (GoesOn line e) = along e (sets v _ refl line.txn _ refl refl refl (inl refl))
+event_leaves sc n v w (Gets line e) = along e (sets v _ refl line.txn _ refl refl refl (inl refl))
+event_leaves sc n v w (SumsUp line e) = along e (sets v _ refl line.txn _ refl refl refl (inl refl))
+event_leaves sc n v w (Writes line e) = along e (sets v _ refl line.txn _ refl refl refl (inl refl))
+event_leaves sc n v w (Inserts line e) = along e (sets v _ refl line.txn _ refl refl refl (inl refl))
+event_leaves sc n v w (Splits line e) = along e (keeps v _ refl refl refl (inl refl) (inl refl))
+event_leaves sc n v w (Commits line e) = along e (sets v _ refl line.txn _ refl refl refl (inr (_, refl)))
+event_leaves sc n v w (Asks line e) = along e (keeps v _ refl refl refl (inl refl) (sent _ _ v.outbox refl))
+event_leaves sc n v w (Starts line e) = along e (keeps v _ refl refl refl (inl refl) (sent _ _ v.outbox refl))
+event_leaves sc n v w (GotWire line e) = along e (keeps v _ refl refl refl (took _ line.after _ v.inbox line.front refl) (sent _ _ v.outbox refl))
+event_leaves sc n v w (GotReady line e) = along e (keeps v _ refl refl refl (took _ line.after _ v.inbox line.front refl) (sent _ _ v.outbox refl))
+event_leaves sc n v w (GotDual line e) = along e (keeps v _ refl refl refl (took _ line.after _ v.inbox line.front refl) (inl refl))
+event_leaves sc n v w (IsStale line e) = along e (keeps v _ refl refl refl (took _ line.after _ v.inbox line.front refl) (inl refl))
+event_leaves sc n v w (Gives line e) = along e (keeps v _ refl refl refl (took _ line.after _ v.inbox line.front refl) (sent _ _ v.outbox refl))
+event_leaves sc n v w (GotPage line e) = along e (keeps v _ refl refl refl (took _ line.after _ v.inbox line.front refl) (inl refl))
+event_leaves sc n v w (GotLast line e) = along e (keeps v _ refl refl refl (took _ line.after _ v.inbox line.front refl) (sent _ _ v.outbox refl))
+event_leaves sc n v w (GotFinish line e) = along e (keeps v _ refl refl refl (took _ line.after _ v.inbox line.front refl) (inl refl))
+event_leaves sc n v w (GotAll line e) = along e (keeps v _ refl refl refl (took _ line.after _ v.inbox line.front refl) (sent _ _ v.outbox refl))
+event_leaves sc n v w (GotDone line e) = along e (keeps v _ refl refl refl (took _ line.after _ v.inbox line.front refl) (inl refl))
+event_leaves sc n v w (Finishes line e) = along e (keeps v _ refl refl refl (inl refl) (sent _ _ v.outbox refl))
+event_leaves sc n v w (Pushes line e) = along e (keeps v _ refl refl refl (inl refl) (sent _ _ v.outbox refl))
 
 -- a view seen from its node is that view
 pub face : (n : Node) (v : View) → facing n (seen_from n v) ≡ v

@@ -109,17 +109,19 @@ txns_of v = v.txns
 -- what an event does to each transaction
 pub fate : (sc : Scenario) (n : Node) (v w : View) (u : ℕ) → Event sc n v w → Fate sc u (txn_at v u) (txn_at w u)
 unfolding did locked shares txn_at aborted begun committed cut asks leaves
-fate sc n v w u (Begins t h a new home e) = fate_set sc v w t u _ (ap txns_of e) (Fresh refl refl refl)
-fate sc n v w u (Aborts t y active here e) = fate_set sc v w t u _ (ap txns_of e) (Ends (omega arith) refl refl)
-fate sc n v w u (GoesOn t x pc regs runs leads e) =
-    fate_set sc v w t u _ (ap txns_of e) (Went refl (leads_length x (txn_at v t) pc regs leads) (leads_pc sc n t x v runs leads))
-fate sc n v w u (Gets t r key runs f e) = fate_set sc v w t u _ (ap txns_of e) (Went refl (set_length (txn_at v t).regs r _) (next_pc sc n t _ v runs refl))
-fate sc n v w u (SumsUp t r first last runs f e) =
-    fate_set sc v w t u _ (ap txns_of e) (Went refl (set_length (txn_at v t).regs r _) (next_pc sc n t _ v runs refl))
-fate sc n v w u (Writes t key value runs f there e) = fate_set sc v w t u _ (ap txns_of e) (Went refl refl (next_pc sc n t _ v runs refl))
-fate sc n v w u (Inserts t key value runs f new room e) = fate_set sc v w t u _ (ap txns_of e) (Went refl refl (next_pc sc n t _ v runs refl))
-fate sc n v w u (Splits t key value runs f new full normal pages e) = rw e (Same refl)
-fate sc n v w u (Commits t runs whole e) = fate_set sc v w t u _ (ap txns_of e) (Ends (omega arith) refl refl)
+fate sc n v w u (Begins line e) = fate_set sc v w line.txn u _ (ap txns_of e) (Fresh refl refl refl)
+fate sc n v w u (Aborts line e) = fate_set sc v w line.txn u _ (ap txns_of e) (Ends (omega arith) refl refl)
+fate sc n v w u (GoesOn line e) =
+    fate_set sc v w line.txn u _ (ap txns_of e) (Went refl
+    (leads_length line.act (txn_at v line.txn) line.pc line.regs line.leads) (leads_pc sc n line.txn line.act v line.runs line.leads))
+fate sc n v w u (Gets line e) =
+    fate_set sc v w line.txn u _ (ap txns_of e) (Went refl (set_length (txn_at v line.txn).regs line.register _) (next_pc sc n line.txn _ v line.runs refl))
+fate sc n v w u (SumsUp line e) =
+    fate_set sc v w line.txn u _ (ap txns_of e) (Went refl (set_length (txn_at v line.txn).regs line.register _) (next_pc sc n line.txn _ v line.runs refl))
+fate sc n v w u (Writes line e) = fate_set sc v w line.txn u _ (ap txns_of e) (Went refl refl (next_pc sc n line.txn _ v line.runs refl))
+fate sc n v w u (Inserts line e) = fate_set sc v w line.txn u _ (ap txns_of e) (Went refl refl (next_pc sc n line.txn _ v line.runs refl))
+fate sc n v w u (Splits line e) = rw e (Same refl)
+fate sc n v w u (Commits line e) = fate_set sc v w line.txn u _ (ap txns_of e) (Ends (omega arith) refl refl)
 fate sc n v w u e = Same (at_same v w u (quiet_of e refl).txns)
 
 -- a transaction stays within its bounds, with one choice more

@@ -63,20 +63,20 @@ tallied_step v w t y e c a b = let off = active_off (txn_at v t).status b in tal
 -- each event lists as many commits as it makes
 pub tallied : (sc : Scenario) (n : Node) (v w : View) → Event sc n v w → Tallied v w
 unfolding did locked shares txn_at aborted begun committed cut asks leaves
-tallied sc n v w (Begins t h a new home e) = rw e (tallied_set v _ t _ refl refl refl (new_off (txn_at v t).status new))
-tallied sc n v w (Aborts t y active here e) = rw e (tallied_set v _ t _ refl refl refl (active_off (txn_at v t).status active))
-tallied sc n v w (GoesOn t x pc regs runs leads e) = rw e (tallied_step v _ t _ refl refl refl runs.active)
-tallied sc n v w (Gets t r key runs f e) = rw e (tallied_step v _ t _ refl refl refl runs.active)
-tallied sc n v w (SumsUp t r first last runs f e) = rw e (tallied_step v _ t _ refl refl refl runs.active)
-tallied sc n v w (Writes t key value runs f there e) = rw e (tallied_step v _ t _ refl refl refl runs.active)
-tallied sc n v w (Inserts t key value runs f new room e) = rw e (tallied_step v _ t _ refl refl refl runs.active)
-tallied sc n v w (Splits t key value runs f new full normal pages e) = rw e (tallied_same v _ refl refl)
-tallied sc n v w (Commits t runs whole e) = rw e (record {
-  txns = length-set v.txns t _;
+tallied sc n v w (Begins line e) = rw e (tallied_set v _ line.txn _ refl refl refl (new_off (txn_at v line.txn).status line.new))
+tallied sc n v w (Aborts line e) = rw e (tallied_set v _ line.txn _ refl refl refl (active_off (txn_at v line.txn).status line.active))
+tallied sc n v w (GoesOn line e) = rw e (tallied_step v _ line.txn _ refl refl refl line.runs.active)
+tallied sc n v w (Gets line e) = rw e (tallied_step v _ line.txn _ refl refl refl line.runs.active)
+tallied sc n v w (SumsUp line e) = rw e (tallied_step v _ line.txn _ refl refl refl line.runs.active)
+tallied sc n v w (Writes line e) = rw e (tallied_step v _ line.txn _ refl refl refl line.runs.active)
+tallied sc n v w (Inserts line e) = rw e (tallied_step v _ line.txn _ refl refl refl line.runs.active)
+tallied sc n v w (Splits line e) = rw e (tallied_same v _ refl refl)
+tallied sc n v w (Commits line e) = rw e (record {
+  txns = length-set v.txns line.txn _;
   commits = omega (
     arith,
-    tally_more v.txns t (record (txn_at v t) { status = Committed; rows = []; done = (txn_at v t).done + 1 }) refl runs.active,
-    length-append v.commits (record { txn = t; done = (txn_at v t).done + 1 } ∷ []),
+    tally_more v.txns line.txn (record (txn_at v line.txn) { status = Committed; rows = []; done = (txn_at v line.txn).done + 1 }) refl line.runs.active,
+    length-append v.commits (record { txn = line.txn; done = (txn_at v line.txn).done + 1 } ∷ []),
   );
 })
 tallied sc n v w e = let q = quiet_of e refl in tallied_same v w q.txns q.commits

@@ -27,7 +27,7 @@ use Rattle.zy_laws.proofs.locks.TxnLocks.{aborted_kept, committed_kept, goes_kep
 use Rattle.zy_table.proofs.PageLists.{owns-with_page}
 use Rattle.zy_laws.proofs.walk.Events.{arrived, rest, page, Event, lows_after, Rests, Begins, Aborts, SumsUp, Gets}
 use Rattle.zy_laws.proofs.walk.Events.{Writes, Inserts, Splits, Commits, Asks, Starts, GotWire, GotReady, GotDual, IsStale, Gives, GotPage, GotLast, GotFinish}
-use Rattle.zy_laws.proofs.walk.Events.{GotAll, GotDone, Finishes, Pushes, GoesOn}
+use Rattle.zy_laws.proofs.walk.Events.{GotAll, GotDone, Finishes, Pushes, GoesOn, is_at}
 use Rattle.zy_laws.proofs.places.Installing.{Placed}
 use Rattle.zy_table.proofs.LockLists.{locked_of}
 use Rattle.zy_laws.proofs.locks.Locking.{Kept, Locking, Stay, idle_locking, nobody_runs, seen_same, steady, untouched, whole}
@@ -58,7 +58,7 @@ owns_more leaf xs p h = owns-with_page p leaf xs ∙ or_right _ _ h
 -- the wireframe that comes is the source's
 pub wire_front : (v : View) (lows : List ℕ) (ms : List Message) → v.inbox ≡ Wire lows ∷ ms → v.me.mode ≡ Empty → Roles v → (lows ≡ v.them.lows)
     × (v.them.mode ≡ SInit)
-wire_front v lows ms e empty r = let came = wire_came (taker_of v r (ap is_taker empty)) e in (came.2, came.0)
+wire_front v lows ms e empty r = let came = wire_came (taker_of v r (ap is_taker empty)) e in (cc came.out, came.source)
 
 -- a node is the same as itself
 same_node-refl : (n : Node) → same_node n n ≡ true
@@ -138,57 +138,59 @@ along {sc = sc} {n = n} {lows = lows} e i f = subst (λ z. Kept sc n z lows) (sy
 pub kept_event : (sc : Scenario) (n : Node) (v w : View) (lows : List ℕ) → 2 ≤ sc.cap → Ordered v → Kept sc n v lows → Inv w → (e : Event sc n v w)
     → Kept sc n w (lows_after sc n v w lows e)
 kept_event sc n v w lows two o k i (Rests e) = along e i (λ _. k)
-kept_event sc n v w lows two o k i (Begins t h a new home e) = along e i (begun_event sc n v lows t h k a new home)
-kept_event sc n v w lows two o k i (Aborts t y active here e) = along e i (aborted_kept sc n v lows t k (active, here) y)
-kept_event sc n v w lows two o k i (GoesOn t x pc regs runs leads e) = along e i (goes_kept sc n v lows t k (runs.active, runs.here) pc regs)
-kept_event sc n v w lows two o k i (SumsUp t r first last runs f e) = along e i (sum_kept sc n v lows t k (runs.active, runs.here) first last _ _ f)
-kept_event sc n v w lows two o k i (Gets t r key runs f e) =
-    along e i (lock_kept sc n v lows t k (runs.active, runs.here) key Shared _ _ _ f (λ j h. inl h))
-kept_event sc n v w lows two o k i (Writes t key value runs f there e) =
-    along e i (lock_kept sc n v lows t k (runs.active, runs.here) key Exclusive _ _ _ f (grown key value (txn_at v t).rows))
-kept_event sc n v w lows two o k i (Inserts t key value runs f new room e) =
-    along e i (lock_kept sc n v lows t k (runs.active, runs.here) key Exclusive _ _ _ f (grown key value (txn_at v t).rows))
-kept_event sc n v w lows two o k i (Splits t key value runs f new full normal pages e) =
-    let at : IsAt v t n = (runs.active, runs.here) in
-    let fresh = split_new sc n v lows t k at key two (rows_at (page key v) v.me.pages o.mine.rows) (o.private t) new full in
-    along e i (cut_kept sc n v lows t k at key _ f normal (split_on sc n v lows t k at key full) fresh)
-kept_event sc n v w lows two o k i (Commits t runs all e) = along e i (committed_kept sc n v lows t k (runs.active, runs.here))
-kept_event sc n v w lows two o k i (Asks p gone pulls asked e) = along e i (asks_kept sc n v lows k p)
-kept_event sc n v w lows two o k i (Starts at_a normal empty e) =
-    along e i (turned_kept sc n v lows k (ap is_idle normal) refl (λ _. inr (ap is_source normal)) refl (sent_bare v.outbox (Wire v.me.lows) refl))
-kept_event sc n v w lows two o k i (GotWire sent ms f empty e) =
-    let from = wire_front v sent ms f empty k.inv.roles in
-    along e i (links_kept sc n v lows k refl (ap sent_leaves (sym f)) (sent_bare v.outbox Ready refl)
+kept_event sc n v w lows two o k i (Begins line e) = along e i (begun_event sc n v lows line.txn line.home k line.at_a line.new line.home_is)
+kept_event sc n v w lows two o k i (Aborts line e) = along e i (aborted_kept sc n v lows line.txn k (line.active, line.here) line.cause)
+kept_event sc n v w lows two o k i (GoesOn line e) = along e i (goes_kept sc n v lows line.txn k (is_at line.runs) line.pc line.regs)
+kept_event sc n v w lows two o k i (SumsUp line e) = along e i (sum_kept sc n v lows line.txn k (is_at line.runs) line.first line.last _ _ line.free)
+kept_event sc n v w lows two o k i (Gets line e) = along e i (lock_kept sc n v lows line.txn k (is_at line.runs) line.key Shared _ _ _ line.free (λ j h. inl h))
+kept_event sc n v w lows two o k i (Writes line e) =
+    along e i (lock_kept sc n v lows line.txn k (is_at line.runs) line.key Exclusive _ _ _ line.free (grown line.key line.value (txn_at v line.txn).rows))
+kept_event sc n v w lows two o k i (Inserts line e) =
+    along e i (lock_kept sc n v lows line.txn k (is_at line.runs) line.key Exclusive _ _ _ line.free (grown line.key line.value (txn_at v line.txn).rows))
+kept_event sc n v w lows two o k i (Splits line e) =
+    let at : IsAt v line.txn n = (is_at line.runs) in
+    let committed = rows_at (page line.key v) v.me.pages o.mine.rows in
+    let fresh = split_new sc n v lows line.txn k at line.key two committed (o.private line.txn) line.absent line.full in
+    along e i (cut_kept sc n v lows line.txn k at line.key _ line.free line.normal (split_on sc n v lows line.txn k at line.key line.full) fresh)
+kept_event sc n v w lows two o k i (Commits line e) = along e i (committed_kept sc n v lows line.txn k (is_at line.runs))
+kept_event sc n v w lows two o k i (Asks line e) = along e i (asks_kept sc n v lows k line.page)
+kept_event sc n v w lows two o k i (Starts line e) =
+    along e i (turned_kept sc n v lows k (ap is_idle line.normal) refl (λ _. inr (ap is_source line.normal)) refl (sent_bare v.outbox (Wire v.me.lows) refl))
+kept_event sc n v w lows two o k i (GotWire line e) =
+    let from = wire_front v line.lows line.after line.front line.empty k.inv.roles in
+    along e i (links_kept sc n v lows k refl (ap sent_leaves (sym line.front)) (sent_bare v.outbox Ready refl)
     (steady sc n v.me _ v _ lows k.mine (seen_same n v _ refl) refl (λ t at. refl) (λ _. from.0 ∙ k.theirs.newest (ap is_idle from.1))
-    (λ p t _ h. k.mine.kept p t (inr (ap is_source empty)) h)))
-kept_event sc n v w lows two o k i (GotReady ms f init e) =
-    along e i (turned_kept sc n v lows k (ap is_idle init) refl (still_source sc v.me.mode SDual refl) (ap sent_leaves (sym f)) (sent_bare v.outbox Dual refl))
-kept_event sc n v w lows two o k i (GotDual ms f init e) =
-    along e i (turned_kept sc n v lows k (ap is_idle init) refl (λ _. inr (ap is_source init)) (ap sent_leaves (sym f)) refl)
-kept_event sc n v w lows two o k i (IsStale p ms f e) =
-    along e i (links_kept sc n v lows k refl (ap sent_leaves (sym f)) refl (untouched sc n v.me v _ lows k.mine (seen_same n v _ refl)))
-kept_event sc n v w lows two o k i (Gives p ms f sends own free e) =
-    along e i (leaves_kept sc n v lows k p ms (ap sent_leaves (sym f)) own (give_free sc v p (sends_source v.me.mode sends) free))
-kept_event sc n v w lows two o k i (GotPage leaf ms f pulls e) =
-    along e i (node_kept sc n v lows k (arrived_placed lows v leaf ms f k.placed)
+    (λ p t _ h. k.mine.kept p t (inr (ap is_source line.empty)) h)))
+kept_event sc n v w lows two o k i (GotReady line e) =
+    along e i (turned_kept sc n v lows k (ap is_idle line.mode) refl (still_source sc v.me.mode SDual refl) (ap sent_leaves (sym line.front))
+    (sent_bare v.outbox Dual refl))
+kept_event sc n v w lows two o k i (GotDual line e) =
+    along e i (turned_kept sc n v lows k (ap is_idle line.mode) refl (λ _. inr (ap is_source line.mode)) (ap sent_leaves (sym line.front)) refl)
+kept_event sc n v w lows two o k i (IsStale line e) =
+    along e i (links_kept sc n v lows k refl (ap sent_leaves (sym line.front)) refl (untouched sc n v.me v _ lows k.mine (seen_same n v _ refl)))
+kept_event sc n v w lows two o k i (Gives line e) =
+    along e i (leaves_kept sc n v lows k line.page line.after (ap sent_leaves (sym line.front)) line.own
+    (give_free sc v line.page (sends_source v.me.mode line.sends) line.free))
+kept_event sc n v w lows two o k i (GotPage line e) =
+    along e i (node_kept sc n v lows k (arrived_placed lows v line.leaf line.after line.front k.placed)
     (steady sc n v.me _ v _ lows k.mine (seen_same n v _ refl) refl k.mine.busy k.mine.newest
-    (λ p t s h. owns_more leaf v.me.pages p (k.mine.kept p t s h))))
-kept_event sc n v w lows two o k i (GotLast leaf ms f finish all e) =
-    let x : View = arrived leaf (rest v ms) in
+    (λ p t s h. owns_more line.leaf v.me.pages p (k.mine.kept p t s h))))
+kept_event sc n v w lows two o k i (GotLast line e) =
+    let x : View = arrived line.leaf (rest v line.after) in
     let pages = whole_same x (post Done (turns Normal x)) refl refl refl (sent_bare v.outbox Done refl) in
-    along e i (node_kept sc n v lows k (subst (Placed lows) (sym pages) (arrived_placed lows v leaf ms f k.placed))
-    (turned_locking sc n v lows k (ap is_idle finish) refl (owns_more leaf v.me.pages) (λ _. inr (ap is_source finish)) refl))
-kept_event sc n v w lows two o k i (GotFinish ms f dual e) =
-    along e i (turned_kept sc n v lows k (ap is_idle dual) refl (λ _. inr (ap is_source dual)) (ap sent_leaves (sym f)) refl)
-kept_event sc n v w lows two o k i (GotAll ms f dual all e) =
-    along e i (turned_kept sc n v lows k (ap is_idle dual) refl (λ _. inr (ap is_source dual)) (ap sent_leaves (sym f)) (sent_bare v.outbox Done refl))
-kept_event sc n v w lows two o k i (GotDone ms f finish e) =
-    along e i (links_kept sc n v lows k refl (ap sent_leaves (sym f)) refl
-    (idle_locking sc n v.me _ v _ lows lows k.mine (ap is_idle finish) refl refl refl))
-kept_event sc n v w lows two o k i (Finishes dual none e) =
+    along e i (node_kept sc n v lows k (subst (Placed lows) (sym pages) (arrived_placed lows v line.leaf line.after line.front k.placed))
+    (turned_locking sc n v lows k (ap is_idle line.mode) refl (owns_more line.leaf v.me.pages) (λ _. inr (ap is_source line.mode)) refl))
+kept_event sc n v w lows two o k i (GotFinish line e) =
+    along e i (turned_kept sc n v lows k (ap is_idle line.mode) refl (λ _. inr (ap is_source line.mode)) (ap sent_leaves (sym line.front)) refl)
+kept_event sc n v w lows two o k i (GotAll line e) =
+    along e i (turned_kept sc n v lows k (ap is_idle line.mode) refl (λ _. inr (ap is_source line.mode)) (ap sent_leaves (sym line.front))
+    (sent_bare v.outbox Done refl))
+kept_event sc n v w lows two o k i (GotDone line e) =
+    along e i (links_kept sc n v lows k refl (ap sent_leaves (sym line.front)) refl
+    (idle_locking sc n v.me _ v _ lows lows k.mine (ap is_idle line.mode) refl refl refl))
+kept_event sc n v w lows two o k i (Finishes line e) =
     along e i (links_kept sc n v lows k refl refl (sent_bare v.outbox Finish refl)
-    (steady sc n v.me _ v _ lows k.mine (seen_same n v _ refl) refl (λ t at. absurd (no_active n v t none at)) (λ h. absurd (false≢true (sym h)))
+    (steady sc n v.me _ v _ lows k.mine (seen_same n v _ refl) refl (λ t at. absurd (no_active n v t line.idle at)) (λ h. absurd (false≢true (sym h)))
     (λ p t s h. k.mine.kept p t (still_source sc v.me.mode SFinish refl s) h)))
-kept_event sc n v w lows two o k i (Pushes p finish own e) =
-    along e i
-    (leaves_kept sc n v lows k p v.inbox refl own (λ s q t h same. nobody_runs sc n v.me v lows t k.mine (ap is_idle finish) (k.mine.runs q t h)))
+kept_event sc n v w lows two o k i (Pushes line e) =
+    along e i (leaves_kept sc n v lows k line.page v.inbox refl line.own (λ s q t h same. nobody_runs sc n v.me v lows t k.mine (ap is_idle line.finish) (k.mine.runs q t h)))

@@ -114,34 +114,36 @@ arrived_ordered v leaf ms owned o f =
 pub ordered_event : (sc : Scenario) (n : Node) (v w : View) → Inv v → Ordered v → Event sc n v w → Ordered w
 unfolding locked
 ordered_event sc n v w i o (Rests e) = rw e o
-ordered_event sc n v w i o (Begins t h a new home e) = rw e (begun_ordered t v o h)
-ordered_event sc n v w i o (Aborts t y active here e) = rw e (ended_ordered t v o y)
-ordered_event sc n v w i o (GoesOn t x pc regs runs leads e) = rw e (goes_ordered t v o pc regs)
-ordered_event sc n v w i o (Gets t r key runs f e) = rw e (lock_ordered t v o _ _ Shared _ _ (o.private t))
-ordered_event sc n v w i o (SumsUp t r first last runs f e) = rw e (sum_ordered t v o _ _ _)
-ordered_event sc n v w i o (Writes t key value runs f there e) = rw e (puts_ordered t v o key value)
-ordered_event sc n v w i o (Inserts t key value runs f new room e) = rw e (puts_ordered t v o key value)
-ordered_event sc n v w i o (Splits t key value runs f new full normal pages e) =
-    let x = has_lock t key Exclusive v in
-    let b = boundary sc key (page key v) v.me (txn_at v t) in
-    rw e (cut_ordered t (page key v) b x (has_lock_ordered v o t key Exclusive) (has_lock_inv t key Exclusive v i) normal)
-ordered_event sc n v w i o (Commits t runs all e) = rw e (committed_ordered t v o)
-ordered_event sc n v w i o (Asks p gone pulls new e) = rw e (asks_ordered v o p new)
-ordered_event sc n v w i o (Starts at_a normal empty e) = rw e (kept_ordered v o refl (sent_bare v.outbox (Wire v.me.lows) refl) refl)
-ordered_event sc n v w i o (GotWire lows ms f empty e) =
-    rw e (kept_ordered v o (ap sent_leaves (sym f)) (sent_bare v.outbox Ready refl) (wire_wide v i lows ms f empty))
-ordered_event sc n v w i o (GotReady ms f init e) = rw e (kept_ordered v o (ap sent_leaves (sym f)) (sent_bare v.outbox Dual refl) refl)
-ordered_event sc n v w i o (GotDual ms f init e) = rw e (kept_ordered v o (ap sent_leaves (sym f)) refl refl)
-ordered_event sc n v w i o (IsStale p ms f e) = rw e (kept_ordered v o (ap sent_leaves (sym f)) refl refl)
-ordered_event sc n v w i o (Gives p ms f sends own free e) =
-    let x = rest v ms in
-    rw e (leaves_ordered p x (pulled_inv v i p ms f).owned (kept_ordered v o (ap sent_leaves (sym f)) refl refl) own)
-ordered_event sc n v w i o (GotPage leaf ms f pulls e) = rw e (arrived_ordered v leaf ms i.owned o f)
-ordered_event sc n v w i o (GotLast leaf ms f finish all e) =
-    let x = arrived leaf (rest v ms) in
-    rw e (kept_ordered x (arrived_ordered v leaf ms i.owned o f) refl (sent_bare v.outbox Done refl) refl)
-ordered_event sc n v w i o (GotFinish ms f dual e) = rw e (kept_ordered v o (ap sent_leaves (sym f)) refl refl)
-ordered_event sc n v w i o (GotAll ms f dual all e) = rw e (kept_ordered v o (ap sent_leaves (sym f)) (sent_bare v.outbox Done refl) refl)
-ordered_event sc n v w i o (GotDone ms f finish e) = rw e (kept_ordered v o (ap sent_leaves (sym f)) refl (done_wide v i ms f finish))
-ordered_event sc n v w i o (Finishes dual none e) = rw e (kept_ordered v o refl (sent_bare v.outbox Finish refl) refl)
-ordered_event sc n v w i o (Pushes p finish own e) = rw e (leaves_ordered p v i.owned o own)
+ordered_event sc n v w i o (Begins line e) = rw e (begun_ordered line.txn v o line.home)
+ordered_event sc n v w i o (Aborts line e) = rw e (ended_ordered line.txn v o line.cause)
+ordered_event sc n v w i o (GoesOn line e) = rw e (goes_ordered line.txn v o line.pc line.regs)
+ordered_event sc n v w i o (Gets line e) = rw e (lock_ordered line.txn v o _ _ Shared _ _ (o.private line.txn))
+ordered_event sc n v w i o (SumsUp line e) = rw e (sum_ordered line.txn v o _ _ _)
+ordered_event sc n v w i o (Writes line e) = rw e (puts_ordered line.txn v o line.key line.value)
+ordered_event sc n v w i o (Inserts line e) = rw e (puts_ordered line.txn v o line.key line.value)
+ordered_event sc n v w i o (Splits line e) =
+    let x = has_lock line.txn line.key Exclusive v in
+    let b = boundary sc line.key (page line.key v) v.me (txn_at v line.txn) in
+    rw e (cut_ordered line.txn (page line.key v) b x (has_lock_ordered v o line.txn line.key Exclusive)
+    (has_lock_inv line.txn line.key Exclusive v i) line.normal)
+ordered_event sc n v w i o (Commits line e) = rw e (committed_ordered line.txn v o)
+ordered_event sc n v w i o (Asks line e) = rw e (asks_ordered v o line.page line.unasked)
+ordered_event sc n v w i o (Starts line e) = rw e (kept_ordered v o refl (sent_bare v.outbox (Wire v.me.lows) refl) refl)
+ordered_event sc n v w i o (GotWire line e) =
+    rw e (kept_ordered v o (ap sent_leaves (sym line.front)) (sent_bare v.outbox Ready refl) (wire_wide v i line.lows line.after line.front line.empty))
+ordered_event sc n v w i o (GotReady line e) = rw e (kept_ordered v o (ap sent_leaves (sym line.front)) (sent_bare v.outbox Dual refl) refl)
+ordered_event sc n v w i o (GotDual line e) = rw e (kept_ordered v o (ap sent_leaves (sym line.front)) refl refl)
+ordered_event sc n v w i o (IsStale line e) = rw e (kept_ordered v o (ap sent_leaves (sym line.front)) refl refl)
+ordered_event sc n v w i o (Gives line e) =
+    let x = rest v line.after in
+    let pulled = pulled_inv v i line.page line.after line.front in
+    rw e (leaves_ordered line.page x pulled.owned (kept_ordered v o (ap sent_leaves (sym line.front)) refl refl) line.own)
+ordered_event sc n v w i o (GotPage line e) = rw e (arrived_ordered v line.leaf line.after i.owned o line.front)
+ordered_event sc n v w i o (GotLast line e) =
+    let x = arrived line.leaf (rest v line.after) in
+    rw e (kept_ordered x (arrived_ordered v line.leaf line.after i.owned o line.front) refl (sent_bare v.outbox Done refl) refl)
+ordered_event sc n v w i o (GotFinish line e) = rw e (kept_ordered v o (ap sent_leaves (sym line.front)) refl refl)
+ordered_event sc n v w i o (GotAll line e) = rw e (kept_ordered v o (ap sent_leaves (sym line.front)) (sent_bare v.outbox Done refl) refl)
+ordered_event sc n v w i o (GotDone line e) = rw e (kept_ordered v o (ap sent_leaves (sym line.front)) refl (done_wide v i line.after line.front line.mode))
+ordered_event sc n v w i o (Finishes line e) = rw e (kept_ordered v o refl (sent_bare v.outbox Finish refl) refl)
+ordered_event sc n v w i o (Pushes line e) = rw e (leaves_ordered line.page v i.owned o line.own)

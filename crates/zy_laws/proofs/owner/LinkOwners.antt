@@ -16,7 +16,7 @@ use Rattle.zy_table.specs.Take.{all_here}
 use Rattle.zy_laws.proofs.walk.Events.{rest}
 use Rattle.zy_laws.proofs.owner.MovingPages.{all_below-owns}
 use Rattle.zy_laws.proofs.owner.PageCounts.{owns-times, times_in, times_sent, times_sent-post}
-use Rattle.zy_laws.proofs.owner.Phases.{AllPages, AllThere, Resting, Ready_sent, Done_sent, begins_length, done_post}
+use Rattle.zy_laws.proofs.owner.Phases.{Is, AllPages, Arrived, AllThere, Resting, Ready_sent, Done_sent, begins_length, done_post}
 use Rattle.zy_laws.proofs.owner.PhaseSteps.{asked_for, destination_same, done_came, dual_came, finish_came, finished}
 use Rattle.zy_laws.proofs.owner.PhaseSteps.{in_finish, no_pull, pull_came, ready_came, source_of, started, taker_of, wire_came}
 use Rattle.zy_laws.proofs.owner.Roles.{Bare, Destination, Inv, Owned, Roles, Source, turned, turned_inv, width}
@@ -78,24 +78,26 @@ module _ (v : View) (i : Inv v) where
   pub starts_inv : v.me.mode ≡ Normal → v.them.mode ≡ Empty → Inv (post (Wire v.me.lows) (turns SInit v))
   starts_inv normal empty =
       let ph = taker_of (turned v) (turned_inv v i).roles (ap is_taker empty) in
-      links_inv (Source (started ph normal empty)) (bare_never _ SInit refl refl) refl (λ p. refl) (posted (Wire v.me.lows) (λ p. refl))
+      links_inv (Source (started ph normal)) (bare_never _ SInit refl refl) refl (λ p. refl) (posted (Wire v.me.lows) (λ p. refl))
 
   -- a wireframe that is taken is at most as long as the other node's
   pub wire_wide : (lows : List ℕ) (ms : List Message) → v.inbox ≡ Wire lows ∷ ms → v.me.mode ≡ Empty → max (length lows) (length v.them.lows) ≡ width v
   wire_wide lows ms f empty =
       let came = wire_came (taker_of v i.roles (ap is_taker empty)) f in
-      let bare : length v.me.lows ≡ 0 = ap length came.1 in
-      let same : length lows ≡ length v.them.lows = ap length came.2 in
-      omega (arith, bare, same)
+      let bare : length v.me.lows ≡ 0 = ap length came.lows in
+      let same : lows ≡ v.them.lows = cc came.out in
+      let long = ap length same in
+      omega (arith, bare, long)
 
   -- a wireframe that is taken keeps roles and owners
   pub wire_inv : (lows : List ℕ) (ms : List Message) → v.inbox ≡ Wire lows ∷ ms → v.me.mode ≡ Empty
       → Inv (post Ready (turns DInit (with_me (with_lows lows v.me) (rest v ms))))
   wire_inv lows ms f empty =
       let came = wire_came (taker_of v i.roles (ap is_taker empty)) f in
-      let clear : v.outbox ≡ [] = came.4 in
-      links_inv (Destination (Ready_sent came.0 refl came.2 came.3 (ap (λ xs. xs ++ Ready ∷ []) clear)))
-      (record { none = λ _. i.mine.none (ap is_bare empty) }) (wire_wide lows ms f empty) (taken (Wire lows) ms f (λ p. refl)) (posted Ready (λ p. refl))
+      let back = ap (λ xs. xs ++ Ready ∷ []) came.back in
+      let sent = Is Ready_sent (record { source = came.source; destination = refl; lows = cc came.out; out = cc came.out; back = back }) in
+      links_inv (Destination sent) (record { none = λ _. i.mine.none (ap is_bare empty) }) (wire_wide lows ms f empty)
+      (taken (Wire lows) ms f (λ p. refl)) (posted Ready (λ p. refl))
 
   -- a ready that is taken keeps roles and owners
   pub ready_inv : (ms : List Message) → v.inbox ≡ Ready ∷ ms → v.me.mode ≡ SInit → Inv (post Dual (turns SDual (rest v ms)))
@@ -133,28 +135,31 @@ module _ (v : View) (i : Inv v) where
   -- a destination that has all pages turns Normal and says so
   pub all_inv : v.me.mode ≡ DFinish → all_here v.me ≡ true → Inv (post Done (turns Normal v))
   all_inv finish here =
-      let k = in_finish (taker_of v i.roles (ap is_taker finish)) finish in
+      let at = in_finish (taker_of v i.roles (ap is_taker finish)) finish in
       let all = there_of v.me here in
-      let more : Begins v.them.lows v.me.lows = record { more = []; is = k.1 ∙ sym (append-nil v.them.lows) } in
-      let done = Done_sent k.0 refl more (record { each = all.each }) (nothing_sent v v.inbox refl k.2 i.owned all (ap length k.1)) (done_post v.outbox k.3) in
+      let more : Begins v.them.lows v.me.lows = record { more = []; is = at.lows ∙ sym (append-nil v.them.lows) } in
+      let none = nothing_sent v v.inbox refl at.out i.owned all (ap length at.lows) in
+      let lows : Arrived v.them.lows (turns Normal v).me = record { begins = more; there = record { each = all.each } } in
+      let done = Is Done_sent (record { source = at.source; destination = refl; lows = lows; out = none; back = done_post v.outbox at.back }) in
       links_inv (Destination done) (bare_never _ Normal refl refl) refl (λ p. refl) (posted Done (λ p. refl))
 
   -- without the source's wireframe the width is the same
   pub done_wide : (ms : List Message) → v.inbox ≡ Done ∷ ms → v.me.mode ≡ SFinish → max 0 (length v.them.lows) ≡ width v
   done_wide ms f finish =
-      let k = done_came (source_of v i.roles (ap is_source finish)) f in
-      let long = begins_length v.me.lows v.them.lows k.1 in
+      let at = done_came (source_of v i.roles (ap is_source finish)) f in
+      let long = begins_length v.me.lows v.them.lows at.lows.begins in
       omega (arith, long)
 
   -- the source learns it: it has no page left, and the roles turn round
   pub done_inv : (ms : List Message) → v.inbox ≡ Done ∷ ms → v.me.mode ≡ SFinish → Inv (turns Empty (with_me (with_lows [] v.me) (rest v ms)))
   done_inv ms f finish =
-      let k = done_came (source_of v i.roles (ap is_source finish)) f in
-      let long = begins_length v.me.lows v.them.lows k.1 in
+      let at = done_came (source_of v i.roles (ap is_source finish)) f in
+      let long = begins_length v.me.lows v.them.lows at.lows.begins in
       let left = none_there v.me.pages (λ p.
       let one = i.owned.once p in
       elim (cases_lt p (length v.them.lows)) [
-        | inl below ↦ let there = k.2.each p below in grind (arith, nat_tests, one, there)
+        | inl below ↦ let there = at.lows.there.each p below in grind (arith, nat_tests, one, there)
         | inr above ↦ grind (arith, nat_tests, one, long)
       ]) in
-      links_inv (Destination (Resting k.0 refl refl k.4 k.3)) (record { none = λ _. left }) (done_wide ms f finish) (taken Done ms f (λ p. refl)) (λ p. refl)
+      let rests = Is Resting (record { source = at.destination; destination = refl; lows = refl; out = at.back; back = at.out }) in
+      links_inv (Destination rests) (record { none = λ _. left }) (done_wide ms f finish) (taken Done ms f (λ p. refl)) (λ p. refl)

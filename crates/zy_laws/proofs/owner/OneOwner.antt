@@ -21,7 +21,7 @@ use Rattle.zy_table.specs.State.{Leaf, State, View, facing, seen_from}
 use Rattle.zy_laws.proofs.walk.Events.{Asks, Commits, Event, Finishes, Gives, GotAll, GotDone, GotDual, GotFinish, GotLast, GotPage}
 use Rattle.zy_laws.proofs.walk.Events.{GotReady, GotWire, IsStale, Pushes, Splits, Starts, arrived, has_lock, page, rest, step_happens}
 use Rattle.zy_laws.proofs.owner.PageCounts.{times-all_leaves, times-installed}
-use Rattle.zy_laws.proofs.owner.Phases.{Resting}
+use Rattle.zy_laws.proofs.owner.Phases.{Is, Resting}
 use Rattle.zy_laws.proofs.walk.PlayPush.{play-keeps}
 use Rattle.zy_laws.proofs.owner.Roles.{Inv, Source, turned_inv}
 use Rattle.zy_laws.proofs.walk.Kinds.{in_place_of}
@@ -32,30 +32,31 @@ use Rattle.zy_laws.proofs.owner.LinkOwners.{all_inv, asks_inv, done_inv, dual_in
 -- each event keeps roles and owners
 pub inv_event : (sc : Scenario) (n : Node) (v w : View) → Inv v → Event sc n v w → Inv w
 unfolding did locked shares txn_at aborted begun committed
-inv_event sc n v w i (Splits t key value runs f new full normal pages e) =
-    let locked = locks_inv v (has_lock t key Exclusive v) (refl, refl, refl) refl refl refl i in
-    rw e (cut_inv t (page key v) (boundary sc key (page key v) v.me (txn_at v t)) (has_lock t key Exclusive v) normal locked)
-inv_event sc n v w i (Commits t runs all e) = rw e (shape_inv v _ (record {
+inv_event sc n v w i (Splits line e) =
+    let locked = locks_inv v (has_lock line.txn line.key Exclusive v) (refl, refl, refl) refl refl refl i in
+    let low = boundary sc line.key (page line.key v) v.me (txn_at v line.txn) in
+    rw e (cut_inv line.txn (page line.key v) low (has_lock line.txn line.key Exclusive v) line.normal locked)
+inv_event sc n v w i (Commits line e) = rw e (shape_inv v _ (record {
   mode = refl;
   lows = refl;
-  counts = λ p. times-installed p v.me.lows (txn_at v t).rows v.me.pages;
-  none = λ h. ap (installed v.me.lows (txn_at v t).rows) h;
+  counts = λ p. times-installed p v.me.lows (txn_at v line.txn).rows v.me.pages;
+  none = λ h. ap (installed v.me.lows (txn_at v line.txn).rows) h;
 }) refl refl refl i)
-inv_event sc n v w i (Asks p gone pulls asked e) = rw e (asks_inv v i p pulls)
-inv_event sc n v w i (Starts at_a normal empty e) = rw e (starts_inv v i normal empty)
-inv_event sc n v w i (GotWire lows ms f empty e) = rw e (wire_inv v i lows ms f empty)
-inv_event sc n v w i (GotReady ms f init e) = rw e (ready_inv v i ms f init)
-inv_event sc n v w i (GotDual ms f init e) = rw e (dual_inv v i ms f init)
-inv_event sc n v w i (IsStale p ms f e) = rw e (pulled_inv v i p ms f)
-inv_event sc n v w i (Gives p ms f sends own free e) = rw e (leaves_inv p (rest v ms) (pulled_inv v i p ms f) sends own)
-inv_event sc n v w i (GotPage leaf ms f pulls e) = rw e (arrived_inv v leaf ms i f pulls)
-inv_event sc n v w i (GotLast leaf ms f finish all e) =
-    rw e (all_inv (arrived leaf (rest v ms)) (arrived_inv v leaf ms i f (ap may_pull finish)) finish all)
-inv_event sc n v w i (GotFinish ms f dual e) = rw e (finish_inv v i ms f dual)
-inv_event sc n v w i (GotAll ms f dual all e) = rw e (all_inv (turns DFinish (rest v ms)) (finish_inv v i ms f dual) refl all)
-inv_event sc n v w i (GotDone ms f finish e) = rw e (done_inv v i ms f finish)
-inv_event sc n v w i (Finishes dual none e) = rw e (finishes_inv v i dual)
-inv_event sc n v w i (Pushes p finish own e) = rw e (leaves_inv p v i (ap is_sending finish) own)
+inv_event sc n v w i (Asks line e) = rw e (asks_inv v i line.page line.pulls)
+inv_event sc n v w i (Starts line e) = rw e (starts_inv v i line.normal line.empty)
+inv_event sc n v w i (GotWire line e) = rw e (wire_inv v i line.lows line.after line.front line.empty)
+inv_event sc n v w i (GotReady line e) = rw e (ready_inv v i line.after line.front line.mode)
+inv_event sc n v w i (GotDual line e) = rw e (dual_inv v i line.after line.front line.mode)
+inv_event sc n v w i (IsStale line e) = rw e (pulled_inv v i line.page line.after line.front)
+inv_event sc n v w i (Gives line e) = rw e (leaves_inv line.page (rest v line.after) (pulled_inv v i line.page line.after line.front) line.sends line.own)
+inv_event sc n v w i (GotPage line e) = rw e (arrived_inv v line.leaf line.after i line.front line.pulls)
+inv_event sc n v w i (GotLast line e) =
+    rw e (all_inv (arrived line.leaf (rest v line.after)) (arrived_inv v line.leaf line.after i line.front (ap may_pull line.mode)) line.mode line.all)
+inv_event sc n v w i (GotFinish line e) = rw e (finish_inv v i line.after line.front line.mode)
+inv_event sc n v w i (GotAll line e) = rw e (all_inv (turns DFinish (rest v line.after)) (finish_inv v i line.after line.front line.mode) refl line.all)
+inv_event sc n v w i (GotDone line e) = rw e (done_inv v i line.after line.front line.mode)
+inv_event sc n v w i (Finishes line e) = rw e (finishes_inv v i line.dual)
+inv_event sc n v w i (Pushes line e) = rw e (leaves_inv line.page v i (ap is_sending line.finish) line.own)
 inv_event sc n v w i e = let k = in_place_of e refl in locks_inv v w (k.mode, k.lows, k.pages) k.them k.inbox k.outbox i
 
 -- what holds from A's side holds from each
@@ -101,7 +102,7 @@ opening_owned xs each p = let long = length-map xs (λ (x : Leaf). x.low) in let
 pub opening_inv : (sc : Scenario) → Inv (facing A (opening sc))
 unfolding opening
 opening_inv sc = record {
-  roles = Source (Resting refl refl refl refl refl);
+  roles = Source (Is Resting (record { source = refl; destination = refl; lows = refl; out = refl; back = refl }));
   owned = record { once = opening_owned (opening_leaves (opening_rows sc.cap) sc.rows) (λ p. times-leaves (opening_rows sc.cap) p sc.rows) };
   mine = record { none = λ h. absurd (false≢true h) };
   theirs = record { none = λ _. refl };

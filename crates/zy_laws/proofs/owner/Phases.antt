@@ -1,6 +1,5 @@
 -- Where a migration is, and what is on the links then.
-use Rattle.std.proofs.Common.{◌≡◌, ℕ, ◌<◌, ◌≤◌, List, [], ◌∷◌, ◌++◌, length, refl, ap, arith, inl, inr, length-append}
-use Rattle.std.specs.Prelude.{◌⊎◌}
+use Rattle.std.proofs.Common.{◌≡◌, ℕ, ◌<◌, ◌≤◌, List, [], ◌∷◌, ◌++◌, length, refl, ap, arith, length-append}
 use Rattle.zy_model.specs.declared.mode.NodeMode.{NodeMode}
 use Rattle.zy_model.specs.declared.mode.NodeMode.TheVariants.{Empty, Normal, SInit, SDual, SFinish, DInit, DDual, DFinish}
 use Rattle.zy_model.specs.Messages.{Wire, Ready, Dual, Pull, Page, Finish, Done}
@@ -38,64 +37,77 @@ PullsAndDone ms = ⊥
 pub record AllThere (x : NodeState) : Type 0 where
   pub each : (p : ℕ) → p < length x.lows → 1 ≤ times p x.pages
 
--- where a migration is, from the source to the destination
+-- a dual, and behind it such messages
+abbrev pub DualThen : (List Message → Type 0) → List Message → Type 0
+DualThen P [] = ⊥
+DualThen P (Dual ∷ ms) = P ms
+DualThen P ms = ⊥
+
+-- the stages of a migration, in order
+pub data Stage : Type 0 where
+  Resting Wire_sent Ready_sent Dual_sent Both_sent In_dual Finish_sent In_finish Done_sent : Stage
+
+-- the source's mode
+abbrev pub source_mode : Stage → NodeMode
+source_mode Resting = Normal
+source_mode Wire_sent = SInit
+source_mode Ready_sent = SInit
+source_mode Dual_sent = SDual
+source_mode In_dual = SDual
+source_mode g = SFinish
+
+-- the destination's mode
+abbrev pub destination_mode : Stage → NodeMode
+destination_mode Resting = Empty
+destination_mode Wire_sent = Empty
+destination_mode In_dual = DDual
+destination_mode Finish_sent = DDual
+destination_mode In_finish = DFinish
+destination_mode Done_sent = Normal
+destination_mode g = DInit
+
+-- the source's low keys begin the destination's, and all pages are there
+pub record Arrived (lows : List ℕ) (dst : NodeState) : Type 0 where
+  pub begins : Begins lows dst.lows
+  pub there : AllThere dst
+
+-- the destination's wireframe beside the source's low keys: none yet, the same, or one that those begin, with all its pages
+abbrev pub Lows : Stage → List ℕ → NodeState → Type 0
+Lows Resting lows dst = dst.lows ≡ []
+Lows Wire_sent lows dst = dst.lows ≡ []
+Lows Done_sent lows dst = Arrived lows dst
+Lows g lows dst = dst.lows ≡ lows
+
+-- what is on its way to the destination, beside the source's low keys
+abbrev pub Out : Stage → List ℕ → List Message → Type 0
+Out Wire_sent lows out = out ≡ Wire lows ∷ []
+Out Dual_sent lows out = DualThen AllPages out
+Out Both_sent lows out = DualThen PagesAndFinish out
+Out In_dual lows out = AllPages out
+Out Finish_sent lows out = PagesAndFinish out
+Out In_finish lows out = AllPages out
+Out g lows out = out ≡ []
+
+-- what is on its way back to the source
+abbrev pub Back : Stage → List Message → Type 0
+Back Ready_sent back = back ≡ Ready ∷ []
+Back In_dual back = AllPulls back
+Back Finish_sent back = AllPulls back
+Back In_finish back = AllPulls back
+Back Done_sent back = PullsAndDone back
+Back g back = back ≡ []
+
+-- what holds at a stage, from the source to the destination: one field for each column
+pub record At (g : Stage) (src dst : NodeState) (going coming : List Message) : Type 0 where
+  pub source : src.mode ≡ source_mode g
+  pub destination : dst.mode ≡ destination_mode g
+  pub lows : Lows g src.lows dst
+  pub out : Out g src.lows going
+  pub back : Back g coming
+
+-- where a migration is: its stage, and what holds there
 pub data Phase (src dst : NodeState) (out back : List Message) : Type 0 where
-  Resting : src.mode ≡ Normal → dst.mode ≡ Empty → dst.lows ≡ [] → out ≡ [] → back ≡ [] → Phase src dst out back
-  Wire_sent : src.mode ≡ SInit → dst.mode ≡ Empty → dst.lows ≡ [] → out ≡ Wire src.lows ∷ [] → back ≡ [] → Phase src dst out back
-  Ready_sent : src.mode ≡ SInit → dst.mode ≡ DInit → dst.lows ≡ src.lows → out ≡ [] → back ≡ Ready ∷ [] → Phase src dst out back
-  Dual_sent : (ms : List Message) → src.mode ≡ SDual → dst.mode ≡ DInit → dst.lows ≡ src.lows → out ≡ Dual ∷ ms → AllPages ms → back ≡ []
-      → Phase src dst out back
-  Both_sent : (ms : List Message) → src.mode ≡ SFinish → dst.mode ≡ DInit → dst.lows ≡ src.lows → out ≡ Dual ∷ ms → PagesAndFinish ms → back ≡ []
-      → Phase src dst out back
-  In_dual : src.mode ≡ SDual → dst.mode ≡ DDual → dst.lows ≡ src.lows → AllPages out → AllPulls back → Phase src dst out back
-  Finish_sent : src.mode ≡ SFinish → dst.mode ≡ DDual → dst.lows ≡ src.lows → PagesAndFinish out → AllPulls back → Phase src dst out back
-  In_finish : src.mode ≡ SFinish → dst.mode ≡ DFinish → dst.lows ≡ src.lows → AllPages out → AllPulls back → Phase src dst out back
-  Done_sent : src.mode ≡ SFinish → dst.mode ≡ Normal → Begins src.lows dst.lows → AllThere dst → out ≡ [] → PullsAndDone back → Phase src dst out back
-
--- the modes of the two nodes in a phase
-module _ {src dst : NodeState} {out back : List Message} where
-  -- the mode that the source has in a phase
-  abbrev pub source_mode : Phase src dst out back → NodeMode
-  source_mode (Resting a b c d f) = Normal
-  source_mode (Wire_sent a b c d f) = SInit
-  source_mode (Ready_sent a b c d f) = SInit
-  source_mode (Dual_sent ms a b c d all f) = SDual
-  source_mode (In_dual a b c d f) = SDual
-  source_mode ph = SFinish
-
-  -- the source has that mode
-  pub source_is : (ph : Phase src dst out back) → src.mode ≡ source_mode ph
-  source_is (Resting a b c d f) = a
-  source_is (Wire_sent a b c d f) = a
-  source_is (Ready_sent a b c d f) = a
-  source_is (Dual_sent ms a b c d all f) = a
-  source_is (Both_sent ms a b c d all f) = a
-  source_is (In_dual a b c d f) = a
-  source_is (Finish_sent a b c d f) = a
-  source_is (In_finish a b c d f) = a
-  source_is (Done_sent a b c all d f) = a
-
-  -- the mode that the destination has in a phase
-  abbrev pub destination_mode : Phase src dst out back → NodeMode
-  destination_mode (Resting a b c d f) = Empty
-  destination_mode (Wire_sent a b c d f) = Empty
-  destination_mode (In_dual a b c d f) = DDual
-  destination_mode (Finish_sent a b c d f) = DDual
-  destination_mode (In_finish a b c d f) = DFinish
-  destination_mode (Done_sent a b c all d f) = Normal
-  destination_mode ph = DInit
-
-  -- the destination has that mode
-  pub destination_is : (ph : Phase src dst out back) → dst.mode ≡ destination_mode ph
-  destination_is (Resting a b c d f) = b
-  destination_is (Wire_sent a b c d f) = b
-  destination_is (Ready_sent a b c d f) = b
-  destination_is (Dual_sent ms a b c d all f) = b
-  destination_is (Both_sent ms a b c d all f) = b
-  destination_is (In_dual a b c d f) = b
-  destination_is (Finish_sent a b c d f) = b
-  destination_is (In_finish a b c d f) = b
-  destination_is (Done_sent a b c all d f) = b
+  Is : (g : Stage) → At g src dst out back → Phase src dst out back
 
 -- pages and one more are pages
 pub pages_post : (ms : List Message) (leaf : Leaf) → AllPages ms → AllPages (ms ++ Page leaf ∷ [])
@@ -127,37 +139,12 @@ done_post [] h = refl
 done_post (Pull q ∷ ms) h = done_post ms h
 done_post ms h = absurd h
 
--- what the front of such a link is
-pub pulls_front : (m : Message) (ms : List Message) → AllPulls (m ∷ ms) → (p : ℕ) × (m ≡ Pull p) × AllPulls ms
-pulls_front (Pull p) ms h = (p, refl, h)
-pulls_front m ms h = absurd h
-
--- the front of a link of pages is a page
-pub pages_front : (m : Message) (ms : List Message) → AllPages (m ∷ ms) → (leaf : Leaf) × (m ≡ Page leaf) × AllPages ms
-pages_front (Page x) ms h = (x, refl, h)
-pages_front m ms h = absurd h
-
--- the front of a link of pages and a finish is a page or the finish
-pub finish_front : (m : Message) (ms : List Message) → PagesAndFinish (m ∷ ms) → ((leaf : Leaf) × (m ≡ Page leaf) × PagesAndFinish ms)
-    ⊎ ((m ≡ Finish) × AllPages ms)
-finish_front (Page x) ms h = inl (x, refl, h)
-finish_front Finish ms h = inr (refl, h)
-finish_front m ms h = absurd h
-
--- the front of a link of pulls and a done is a pull, or the done and the last
-pub done_front : (m : Message) (ms : List Message) → PullsAndDone (m ∷ ms) → ((p : ℕ) × (m ≡ Pull p) × PullsAndDone ms) ⊎ ((m ≡ Done) × (ms ≡ []))
-done_front (Pull p) ms h = inl (p, refl, h)
-done_front Done ms h = inr (refl, h)
-done_front m ms h = absurd h
+-- a message more behind a dual
+pub dual_post : (P Q : List Message → Type 0) (m : Message) → ((ms : List Message) → P ms → Q (ms ++ m ∷ [])) → (ms : List Message) → DualThen P ms
+    → DualThen Q (ms ++ m ∷ [])
+dual_post P Q m more (Dual ∷ ms) h = more ms h
+dual_post P Q m more ms h = absurd h
 
 -- a list is at least as long as one that begins it
 pub begins_length : (xs ys : List ℕ) → Begins xs ys → length xs ≤ length ys
 begins_length xs ys b = omega (arith, length-append xs b.more, ap length b.is)
-
--- equal links have equal fronts and rests
-pub heads : (m x : Message) (ms xs : List Message) → m ∷ ms ≡ x ∷ xs → (m ≡ x) × (ms ≡ xs)
-heads m x ms xs e = (cc, cc)
-
--- an empty link has no front
-pub no_front : {A : Type 0} (m : Message) (ms xs : List Message) → xs ≡ m ∷ ms → xs ≡ [] → A
-no_front m ms xs e none = cc

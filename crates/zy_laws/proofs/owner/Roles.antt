@@ -9,7 +9,7 @@ use Rattle.zy_laws.specs.OneOwner.{times}
 use Rattle.zy_table.specs.Pages.{owns}
 use Rattle.zy_table.specs.State.{Leaf, Message, NodeState, View}
 use Rattle.zy_laws.proofs.owner.PageCounts.{owns_from, owns_none, times_sent}
-use Rattle.zy_laws.proofs.owner.Phases.{Phase, Resting, Wire_sent, Ready_sent, Done_sent, begins_length, source_is, destination_is}
+use Rattle.zy_laws.proofs.owner.Phases.{Phase, Is, Resting, Wire_sent, Ready_sent, Done_sent, begins_length}
 
 -- which of the two is the source
 pub data Roles (v : View) : Type 0 where
@@ -70,19 +70,19 @@ sole v inbox outbox o none a b sent p h =
 
 -- a node in a home mode has all pages
 pub all_owned : (v : View) → Inv v → is_home v.me.mode ≡ true → Roles v → (p : ℕ) → p < length v.me.lows → owns v.me.pages p ≡ true
-all_owned v i s (Source (Resting a b c d f)) = sole v [] [] i.owned (i.theirs.none (ap is_bare b)) f d (λ p. refl)
-all_owned v i s (Source (Wire_sent a b c d f)) = sole v [] (Wire v.me.lows ∷ []) i.owned (i.theirs.none (ap is_bare b)) f d (λ p. refl)
-all_owned v i s (Source (Ready_sent a b c d f)) = sole v (Ready ∷ []) [] i.owned (i.theirs.none (ap is_bare b)) f d (λ p. refl)
-all_owned v i s (Source ph) = cc (source_is ph)
-all_owned v i s (Destination (Done_sent a b c all d f)) = λ p h. owns_from p v.me.pages (all.each p h)
-all_owned v i s (Destination ph) = cc (destination_is ph)
+all_owned v i s (Source (Is Resting at)) = sole v [] [] i.owned (i.theirs.none (ap is_bare at.destination)) at.back at.out (λ p. refl)
+all_owned v i s (Source (Is Wire_sent at)) = sole v [] (Wire v.me.lows ∷ []) i.owned (i.theirs.none (ap is_bare at.destination)) at.back at.out (λ p. refl)
+all_owned v i s (Source (Is Ready_sent at)) = sole v (Ready ∷ []) [] i.owned (i.theirs.none (ap is_bare at.destination)) at.back at.out (λ p. refl)
+all_owned v i s (Source (Is g at)) = cc at.source
+all_owned v i s (Destination (Is Done_sent at)) = λ p h. owns_from p v.me.pages (at.lows.there.each p h)
+all_owned v i s (Destination (Is g at)) = cc at.destination
 
 -- beside a node in Normal nothing runs, and the other wireframe is no longer
 pub normal_other : (v : View) → Roles v → may_split v.me.mode ≡ true → (is_idle v.them.mode ≡ true) × (length v.them.lows ≤ length v.me.lows)
-normal_other v (Source (Resting a b c d f)) h = (ap is_idle b, omega (arith, ap length c))
-normal_other v (Source ph) h = cc (source_is ph)
-normal_other v (Destination (Done_sent a b c all d f)) h = (ap is_idle a, begins_length v.them.lows v.me.lows c)
-normal_other v (Destination ph) h = cc (destination_is ph)
+normal_other v (Source (Is Resting at)) h = (ap is_idle at.destination, omega (arith, ap length at.lows))
+normal_other v (Source (Is g at)) h = cc at.source
+normal_other v (Destination (Is Done_sent at)) h = (ap is_idle at.source, begins_length v.them.lows v.me.lows at.lows.begins)
+normal_other v (Destination (Is g at)) h = cc at.destination
 
 -- a number from the width on is no page's
 pub fresh_number : (v : View) → Owned v → length v.them.lows ≤ length v.me.lows → owns v.me.pages (length v.me.lows) ≡ false

@@ -23,7 +23,7 @@ use Rattle.zy_laws.proofs.wireframe.OneWireframe.{no_more}
 use Rattle.zy_laws.proofs.owner.PageCounts.{owns_from, times-all_leaves}
 use Rattle.zy_laws.proofs.locks.Reached.{reached}
 use Rattle.zy_laws.proofs.places.PageValues.{db, found_once}
-use Rattle.zy_laws.proofs.owner.Phases.{Phase, Resting, Wire_sent, Ready_sent, Dual_sent, Both_sent, In_dual, Finish_sent, In_finish, Done_sent}
+use Rattle.zy_laws.proofs.owner.Phases.{Phase, Is, Resting, Wire_sent, Ready_sent, Dual_sent, In_dual, Done_sent}
 use Rattle.zy_laws.proofs.owner.Roles.{Destination, Owned, Roles, Source, width}
 use Rattle.zy_model.proofs.PageOf.{page_of-within}
 
@@ -54,15 +54,13 @@ from_destination xs ys lows e b = record { left = subst (Begins xs) e b; right =
 -- in each phase the source or the destination has the newest low keys
 newest_in : (src dst : NodeState) (out back : List Message) (lows : List ℕ) → Phase src dst out back → (is_idle src.mode ≡ false → src.lows ≡ lows)
     → (is_idle dst.mode ≡ false → dst.lows ≡ lows) → Newest src.lows dst.lows lows
-newest_in src dst out back lows (Resting a b c d f) x y = from_source src.lows dst.lows lows (x (ap is_idle a)) (inl c)
-newest_in src dst out back lows (Wire_sent a b c d f) x y = from_source src.lows dst.lows lows (x (ap is_idle a)) (inl c)
-newest_in src dst out back lows (Ready_sent a b c d f) x y = from_source src.lows dst.lows lows (x (ap is_idle a)) (inr c)
-newest_in src dst out back lows (Dual_sent ms a b c d all f) x y = from_source src.lows dst.lows lows (x (ap is_idle a)) (inr c)
-newest_in src dst out back lows (Both_sent ms a b c d all f) x y = from_destination src.lows dst.lows lows (y (ap is_idle b)) (no_more src.lows dst.lows c)
-newest_in src dst out back lows (In_dual a b c d f) x y = from_source src.lows dst.lows lows (x (ap is_idle a)) (inr c)
-newest_in src dst out back lows (Finish_sent a b c d f) x y = from_destination src.lows dst.lows lows (y (ap is_idle b)) (no_more src.lows dst.lows c)
-newest_in src dst out back lows (In_finish a b c d f) x y = from_destination src.lows dst.lows lows (y (ap is_idle b)) (no_more src.lows dst.lows c)
-newest_in src dst out back lows (Done_sent a b c all d f) x y = from_destination src.lows dst.lows lows (y (ap is_idle b)) c
+newest_in src dst out back lows (Is Resting at) x y = from_source src.lows dst.lows lows (x (ap is_idle at.source)) (inl at.lows)
+newest_in src dst out back lows (Is Wire_sent at) x y = from_source src.lows dst.lows lows (x (ap is_idle at.source)) (inl at.lows)
+newest_in src dst out back lows (Is Ready_sent at) x y = from_source src.lows dst.lows lows (x (ap is_idle at.source)) (inr at.lows)
+newest_in src dst out back lows (Is Dual_sent at) x y = from_source src.lows dst.lows lows (x (ap is_idle at.source)) (inr at.lows)
+newest_in src dst out back lows (Is In_dual at) x y = from_source src.lows dst.lows lows (x (ap is_idle at.source)) (inr at.lows)
+newest_in src dst out back lows (Is Done_sent at) x y = from_destination src.lows dst.lows lows (y (ap is_idle at.destination)) at.lows.begins
+newest_in src dst out back lows (Is g at) x y = from_destination src.lows dst.lows lows (y (ap is_idle at.destination)) (no_more src.lows dst.lows at.lows)
 
 -- by the roles, one of the two has the newest low keys
 newest_of : (v : View) (lows : List ℕ) → Roles v → (is_idle v.me.mode ≡ false → v.me.lows ≡ lows) → (is_idle v.them.mode ≡ false → v.them.lows ≡ lows)

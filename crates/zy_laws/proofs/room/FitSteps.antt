@@ -31,10 +31,10 @@ use Rattle.zy_laws.proofs.locks.CutLocks.{split_new, split_on}
 use Rattle.zy_laws.proofs.room.EachPage.{Each, each_append, each_at, each_both, each_front, each_installed, each_map, each_with_page, each_without}
 use Rattle.zy_laws.proofs.walk.Events.{Aborts, Begins, Commits, Event, Gets, Inserts, SumsUp, Writes, Splits}
 use Rattle.zy_laws.proofs.walk.Events.{Gives, GotPage, GotLast, Pushes, has_lock, page, puts, lows_after, arrived}
-use Rattle.zy_laws.proofs.walk.Events.{rest, GoesOn}
+use Rattle.zy_laws.proofs.walk.Events.{rest, GoesOn, is_at}
 use Rattle.zy_laws.proofs.room.Fit.{Fit, Room, Sized, commit_room, fit_acts, fit_stays, put_room}
 use Rattle.zy_table.proofs.LockLists.{exclusive_holds}
-use Rattle.zy_laws.proofs.locks.Locking.{Kept, whole}
+use Rattle.zy_laws.proofs.locks.Locking.{Kept}
 use Rattle.zy_laws.proofs.places.MovedPages.{whole-front, whole-leaves}
 use Rattle.zy_laws.proofs.owner.MovingPages.{sent_bare}
 use Rattle.zy_laws.proofs.places.PageValues.{rest_of}
@@ -207,24 +207,24 @@ module _ (sc : Scenario) (n : Node) (v : View) (lows : List ℕ) (f : Fit sc n v
 -- each event keeps room
 pub fit_event : (sc : Scenario) (n : Node) (v w : View) (lows : List ℕ) → 2 ≤ sc.cap → Kept sc n v lows → Fit sc n v lows → (e : Event sc n v w)
     → Fit sc n w (lows_after sc n v w lows e)
-fit_event sc n v w lows two k f (Begins t h a new home e) = rw e (begun_fit sc n v lows f t h new)
-fit_event sc n v w lows two k f (Aborts t y active here e) = rw e (aborted_fit sc n v lows f t (active, here) y)
-fit_event sc n v w lows two k f (GoesOn t x pc regs runs leads e) = rw e (did_fit sc n v lows f t (runs.active, runs.here) pc regs)
-fit_event sc n v w lows two k f (Gets t r key runs g e) = rw e (get_fit sc n v lows f t (runs.active, runs.here) key _ _ Shared)
-fit_event sc n v w lows two k f (SumsUp t r first last runs g e) = rw e (sum_fit sc n v lows f t (runs.active, runs.here) _ _ _)
-fit_event sc n v w lows two k f (Writes t key value runs g there e) = rw e (put_fit sc n v lows f t (runs.active, runs.here) k key value (inl there))
-fit_event sc n v w lows two k f (Inserts t key value runs g new room e) = rw e (put_fit sc n v lows f t (runs.active, runs.here) k key value (inr room))
-fit_event sc n v w lows two k f (Splits t key value runs g new full normal pages e) =
-    let at : IsAt v t n = (runs.active, runs.here) in
+fit_event sc n v w lows two k f (Begins line e) = rw e (begun_fit sc n v lows f line.txn line.home line.new)
+fit_event sc n v w lows two k f (Aborts line e) = rw e (aborted_fit sc n v lows f line.txn (line.active, line.here) line.cause)
+fit_event sc n v w lows two k f (GoesOn line e) = rw e (did_fit sc n v lows f line.txn (is_at line.runs) line.pc line.regs)
+fit_event sc n v w lows two k f (Gets line e) = rw e (get_fit sc n v lows f line.txn (is_at line.runs) line.key _ _ Shared)
+fit_event sc n v w lows two k f (SumsUp line e) = rw e (sum_fit sc n v lows f line.txn (is_at line.runs) _ _ _)
+fit_event sc n v w lows two k f (Writes line e) = rw e (put_fit sc n v lows f line.txn (is_at line.runs) k line.key line.value (inl line.there))
+fit_event sc n v w lows two k f (Inserts line e) = rw e (put_fit sc n v lows f line.txn (is_at line.runs) k line.key line.value (inr line.room))
+fit_event sc n v w lows two k f (Splits line e) =
+    let at : IsAt v line.txn n = (is_at line.runs) in
     let front = (each_front (Sized sc.cap) v.me.pages (rest_of v) f.sized).0 in
-    let committed = (each_at (Sized sc.cap) (page key v) v.me.pages g.here front).1 in
-    let fresh = split_new sc n v lows t k at key two committed (f.rising t) new full in
-    rw e (cut_fit sc n v lows t key _ k f at g normal (split_on sc n v lows t k at key full) fresh)
-fit_event sc n v w lows two k f (Commits t runs whole e) = rw e (committed_fit sc n v lows f t (runs.active, runs.here) k)
-fit_event sc n v w lows two k f (Gives p ms g m own free e) =
-    rw e (leaves_fit sc n (rest v ms) lows (rest_fit sc n v lows f (Pull p) ms g refl) p own)
-fit_event sc n v w lows two k f (GotPage leaf ms g m e) = rw e (arrived_fit sc n v lows f leaf ms g (takes_in v.me.mode m) k)
-fit_event sc n v w lows two k f (GotLast leaf ms g m all e) =
-    rw e (turns_fit sc n _ lows (arrived_fit sc n v lows f leaf ms g (ap is_source m) k) Normal Done refl)
-fit_event sc n v w lows two k f (Pushes p m own e) = rw e (leaves_fit sc n v lows f p own)
+    let committed = (each_at (Sized sc.cap) (page line.key v) v.me.pages line.free.here front).1 in
+    let fresh = split_new sc n v lows line.txn k at line.key two committed (f.rising line.txn) line.absent line.full in
+    rw e (cut_fit sc n v lows line.txn line.key _ k f at line.free line.normal (split_on sc n v lows line.txn k at line.key line.full) fresh)
+fit_event sc n v w lows two k f (Commits line e) = rw e (committed_fit sc n v lows f line.txn (is_at line.runs) k)
+fit_event sc n v w lows two k f (Gives line e) =
+    rw e (leaves_fit sc n (rest v line.after) lows (rest_fit sc n v lows f (Pull line.page) line.after line.front refl) line.page line.own)
+fit_event sc n v w lows two k f (GotPage line e) = rw e (arrived_fit sc n v lows f line.leaf line.after line.front (takes_in v.me.mode line.pulls) k)
+fit_event sc n v w lows two k f (GotLast line e) =
+    rw e (turns_fit sc n _ lows (arrived_fit sc n v lows f line.leaf line.after line.front (ap is_source line.mode) k) Normal Done refl)
+fit_event sc n v w lows two k f (Pushes line e) = rw e (leaves_fit sc n v lows f line.page line.own)
 fit_event sc n v w lows two k f e = fit_stays sc n v lows f w (quiet_of e refl).txns (unmoved_of e refl)

@@ -74,15 +74,15 @@ commits_of v = v.commits
 -- each event keeps it
 told : (sc : Scenario) (n : Node) (v w : View) (u : ℕ) → Event sc n v w → Told v u → Told w u
 unfolding did locked shares txn_at aborted begun committed cut asks leaves
-told sc n v w u (Begins t h a new home e) = told_set v w t u _ (ap txns_of e) (ap commits_of e) (sym (new_off (txn_at v t).status new))
-told sc n v w u (Aborts t y active here e) = told_set v w t u _ (ap txns_of e) (ap commits_of e) (sym (active_off (txn_at v t).status active))
-told sc n v w u (GoesOn t x pc regs runs leads e) = told_set v w t u _ (ap txns_of e) (ap commits_of e) refl
-told sc n v w u (Gets t r key runs f e) = told_set v w t u _ (ap txns_of e) (ap commits_of e) refl
-told sc n v w u (SumsUp t r first last runs f e) = told_set v w t u _ (ap txns_of e) (ap commits_of e) refl
-told sc n v w u (Writes t key value runs f there e) = told_set v w t u _ (ap txns_of e) (ap commits_of e) refl
-told sc n v w u (Inserts t key value runs f new room e) = told_set v w t u _ (ap txns_of e) (ap commits_of e) refl
-told sc n v w u (Splits t key value runs f new full normal pages e) = told_same v w u (ap txns_of e) (ap commits_of e)
-told sc n v w u (Commits t runs whole e) = told_commit v w t u _ _ (ap txns_of e) (ap commits_of e) refl refl runs.active
+told sc n v w u (Begins line e) = told_set v w line.txn u _ (ap txns_of e) (ap commits_of e) (sym (new_off (txn_at v line.txn).status line.new))
+told sc n v w u (Aborts line e) = told_set v w line.txn u _ (ap txns_of e) (ap commits_of e) (sym (active_off (txn_at v line.txn).status line.active))
+told sc n v w u (GoesOn line e) = told_set v w line.txn u _ (ap txns_of e) (ap commits_of e) refl
+told sc n v w u (Gets line e) = told_set v w line.txn u _ (ap txns_of e) (ap commits_of e) refl
+told sc n v w u (SumsUp line e) = told_set v w line.txn u _ (ap txns_of e) (ap commits_of e) refl
+told sc n v w u (Writes line e) = told_set v w line.txn u _ (ap txns_of e) (ap commits_of e) refl
+told sc n v w u (Inserts line e) = told_set v w line.txn u _ (ap txns_of e) (ap commits_of e) refl
+told sc n v w u (Splits line e) = told_same v w u (ap txns_of e) (ap commits_of e)
+told sc n v w u (Commits line e) = told_commit v w line.txn u _ _ (ap txns_of e) (ap commits_of e) refl refl line.runs.active
 told sc n v w u e = let q = quiet_of e refl in told_same v w u q.txns q.commits
 
 -- what holds of a state holds of the view from either node

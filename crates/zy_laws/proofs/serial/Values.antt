@@ -47,16 +47,17 @@ no_longer cs c h =
 -- an event that commits nothing changes no value of the database
 pub event_db : (sc : Scenario) (n : Node) (v w : View) (lows : List ℕ) → Kept sc n v lows → Event sc n v w → w.commits ≡ v.commits → db w ≡ db v
 unfolding begun aborted did locked shares asks leaves
-event_db sc n v w lows k (Splits t key value runs f new full normal pages e) c =
-    let b = boundary sc key (page key v) v.me (txn_at v t) in
-    ap db e ∙ cut_db lows (has_lock t key Exclusive v) t (page key v) b k.placed (record { once = k.inv.owned.once }) f.here
-event_db sc n v w lows k (Commits t runs all e) c = absurd (no_longer v.commits _ (sym (committed_list t v) ∙ sym (ap (λ (x : View). x.commits) e) ∙ c))
-event_db sc n v w lows k (Gives p ms f sends own free e) c = ap db e ∙ leaves_db lows v p ms k.placed k.inv.owned (ap sent_leaves (sym f)) own
-event_db sc n v w lows k (GotPage leaf ms f pulls e) c = ap db e ∙ arrived_db lows v leaf ms f k.placed k.inv.owned
-event_db sc n v w lows k (GotLast leaf ms f finish all e) c =
-    ap db e ∙ same_db (arrived leaf (rest v ms)) (post Done (turns Normal (arrived leaf (rest v ms)))) refl refl refl (sent_bare v.outbox Done refl)
-    ∙ arrived_db lows v leaf ms f k.placed k.inv.owned
-event_db sc n v w lows k (Pushes p finish own e) c = ap db e ∙ leaves_db lows v p v.inbox k.placed k.inv.owned refl own
+event_db sc n v w lows k (Splits line e) c =
+    let b = boundary sc line.key (page line.key v) v.me (txn_at v line.txn) in
+    ap db e ∙ cut_db lows (has_lock line.txn line.key Exclusive v) line.txn (page line.key v) b k.placed (record { once = k.inv.owned.once }) line.free.here
+event_db sc n v w lows k (Commits line e) c = absurd (no_longer v.commits _ (sym (committed_list line.txn v) ∙ sym (ap (λ (x : View). x.commits) e) ∙ c))
+event_db sc n v w lows k (Gives line e) c = ap db e ∙ leaves_db lows v line.page line.after k.placed k.inv.owned (ap sent_leaves (sym line.front)) line.own
+event_db sc n v w lows k (GotPage line e) c = ap db e ∙ arrived_db lows v line.leaf line.after line.front k.placed k.inv.owned
+event_db sc n v w lows k (GotLast line e) c =
+    let x = arrived line.leaf (rest v line.after) in
+    ap db e ∙ same_db x (post Done (turns Normal x)) refl refl refl (sent_bare v.outbox Done refl)
+    ∙ arrived_db lows v line.leaf line.after line.front k.placed k.inv.owned
+event_db sc n v w lows k (Pushes line e) c = ap db e ∙ leaves_db lows v line.page v.inbox k.placed k.inv.owned refl line.own
 event_db sc n v w lows k e c = let q = unmoved_of e refl in same_db v w q.pages (ap (λ (x : NodeState). x.pages) q.them) q.inbox q.outbox
 
 -- values may change places where one of two is none

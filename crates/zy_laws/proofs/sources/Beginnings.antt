@@ -8,15 +8,14 @@ use Rattle.zy_isa.specs.declared.node.Node.TheVariants.{A, B}
 use Rattle.zy_model.specs.Families.{is_destination, is_home, is_idle, is_source}
 use Rattle.zy_model.specs.Table.{home_of, is_waiting}
 use Rattle.zy_model.specs.declared.mode.NodeMode.{NodeMode}
-use Rattle.zy_model.specs.declared.mode.NodeMode.TheVariants.{Empty, Normal, SInit, SDual, SFinish, DInit, DDual, DFinish}
+use Rattle.zy_model.specs.declared.mode.NodeMode.TheVariants.{Empty, Normal, SInit, SFinish, DInit, DDual, DFinish}
 use Rattle.zy_table.specs.Change.{aborted, asks, begun, committed, cut, did, leaves, locked, nobody, shares, txn_at}
 use Rattle.zy_table.specs.Client.{is_active}
 use Rattle.zy_table.specs.declared.status.Status.TheVariants.{Active}
 use Rattle.zy_table.specs.State.{Message, NodeState, Txn, View}
 use Rattle.zy_laws.proofs.counts.Fates.{txns_of}
-use Rattle.zy_laws.proofs.owner.Phases.{Phase, Resting, Ready_sent, Wire_sent, Dual_sent, Both_sent, In_dual, Finish_sent, In_finish, Done_sent}
+use Rattle.zy_laws.proofs.owner.Phases.{Phase, Is, Resting, Ready_sent, Wire_sent}
 use Rattle.zy_laws.proofs.owner.Roles.{Destination, Roles, Source}
-use Rattle.zy_laws.proofs.sources.Sides.{none}
 use Rattle.zy_laws.proofs.sources.Sorting.{sorts}
 use Rattle.zy_laws.proofs.walk.Events.{Event, Begins, Aborts, GoesOn, Gets, SumsUp, Writes, Inserts, Splits, Commits, Asks, Starts, GotWire, GotReady}
 use Rattle.zy_laws.proofs.walk.Events.{GotDual, IsStale, Gives, GotPage, GotLast, GotFinish, GotAll, GotDone, Finishes, Pushes}
@@ -26,52 +25,35 @@ use Rattle.zy_laws.proofs.walk.Txns.{IsAt, Stands, at_either, at_other, at_same,
 -- an event that is no start makes no node SInit
 pub no_init : {sc : Scenario} {n : Node} (v w : View) (e : Event sc n v w) → sorts e ≡ false → w.me.mode ≡ SInit → v.me.mode ≡ SInit
 unfolding asks leaves cut locked
-no_init v w (Commits t runs all e) h is = absurd (false≢true (sym h))
-no_init v w (Starts at_a normal empty e) h is = absurd (false≢true (sym h))
-no_init v w (GotWire sent ms f empty e) h is = let a : DInit ≡ SInit = sym (ap (λ (x : View). x.me.mode) e) ∙ is in absurd cc
-no_init v w (GotReady ms f init e) h is = init
-no_init v w (GotDual ms f init e) h is = let a : DDual ≡ SInit = sym (ap (λ (x : View). x.me.mode) e) ∙ is in absurd cc
-no_init v w (GotLast leaf ms f finish all e) h is = let a : Normal ≡ SInit = sym (ap (λ (x : View). x.me.mode) e) ∙ is in absurd cc
-no_init v w (GotFinish ms f dual e) h is = let a : DFinish ≡ SInit = sym (ap (λ (x : View). x.me.mode) e) ∙ is in absurd cc
-no_init v w (GotAll ms f dual all e) h is = let a : Normal ≡ SInit = sym (ap (λ (x : View). x.me.mode) e) ∙ is in absurd cc
-no_init v w (GotDone ms f finish e) h is = let a : Empty ≡ SInit = sym (ap (λ (x : View). x.me.mode) e) ∙ is in absurd cc
-no_init v w (Finishes dual none e) h is = let a : SFinish ≡ SInit = sym (ap (λ (x : View). x.me.mode) e) ∙ is in absurd cc
-no_init v w (Splits t key value runs f new full normal pages e) h is = sym (ap (λ (x : View). x.me.mode) e) ∙ is
-no_init v w (Asks p gone pulls asked e) h is = sym (ap (λ (x : View). x.me.mode) e) ∙ is
-no_init v w (IsStale p ms f e) h is = sym (ap (λ (x : View). x.me.mode) e) ∙ is
-no_init v w (Gives p ms f sends own free e) h is = sym (ap (λ (x : View). x.me.mode) e) ∙ is
-no_init v w (GotPage leaf ms f pulls e) h is = sym (ap (λ (x : View). x.me.mode) e) ∙ is
-no_init v w (Pushes p finish own e) h is = sym (ap (λ (x : View). x.me.mode) e) ∙ is
+no_init v w (Commits line e) h is = absurd (false≢true (sym h))
+no_init v w (Starts line e) h is = absurd (false≢true (sym h))
+no_init v w (GotWire line e) h is = let a : DInit ≡ SInit = sym (ap (λ (x : View). x.me.mode) e) ∙ is in absurd cc
+no_init v w (GotReady line e) h is = line.mode
+no_init v w (GotDual line e) h is = let a : DDual ≡ SInit = sym (ap (λ (x : View). x.me.mode) e) ∙ is in absurd cc
+no_init v w (GotLast line e) h is = let a : Normal ≡ SInit = sym (ap (λ (x : View). x.me.mode) e) ∙ is in absurd cc
+no_init v w (GotFinish line e) h is = let a : DFinish ≡ SInit = sym (ap (λ (x : View). x.me.mode) e) ∙ is in absurd cc
+no_init v w (GotAll line e) h is = let a : Normal ≡ SInit = sym (ap (λ (x : View). x.me.mode) e) ∙ is in absurd cc
+no_init v w (GotDone line e) h is = let a : Empty ≡ SInit = sym (ap (λ (x : View). x.me.mode) e) ∙ is in absurd cc
+no_init v w (Finishes line e) h is = let a : SFinish ≡ SInit = sym (ap (λ (x : View). x.me.mode) e) ∙ is in absurd cc
+no_init v w (Splits line e) h is = sym (ap (λ (x : View). x.me.mode) e) ∙ is
+no_init v w (Asks line e) h is = sym (ap (λ (x : View). x.me.mode) e) ∙ is
+no_init v w (IsStale line e) h is = sym (ap (λ (x : View). x.me.mode) e) ∙ is
+no_init v w (Gives line e) h is = sym (ap (λ (x : View). x.me.mode) e) ∙ is
+no_init v w (GotPage line e) h is = sym (ap (λ (x : View). x.me.mode) e) ∙ is
+no_init v w (Pushes line e) h is = sym (ap (λ (x : View). x.me.mode) e) ∙ is
 no_init v w e h is = sym (in_place_of e refl).mode ∙ is
-
--- a mode is not two modes
-apart_modes : {X : Type 0} (m a b : NodeMode) → m ≡ a → m ≡ b → (a ≡ b → ⊥) → X
-apart_modes m a b x y off = absurd (off (sym x ∙ y))
 
 -- beside a source in SInit nobody runs yet
 source_init : {src dst : NodeState} {out back : List Message} → Phase src dst out back → src.mode ≡ SInit
     → (is_idle dst.mode ≡ true) ⊎ (is_waiting dst.mode ≡ true)
-source_init (Resting a b c d f) is = apart_modes _ Normal SInit a is (λ h. cc)
-source_init (Wire_sent a b c d f) is = inl (ap is_idle b)
-source_init (Ready_sent a b c d f) is = inr (ap is_waiting b)
-source_init (Dual_sent ms a b c d all f) is = apart_modes _ SDual SInit a is (λ h. cc)
-source_init (Both_sent ms a b c d all f) is = apart_modes _ SFinish SInit a is (λ h. cc)
-source_init (In_dual a b c d f) is = apart_modes _ SDual SInit a is (λ h. cc)
-source_init (Finish_sent a b c d f) is = apart_modes _ SFinish SInit a is (λ h. cc)
-source_init (In_finish a b c d f) is = apart_modes _ SFinish SInit a is (λ h. cc)
-source_init (Done_sent a b c all d f) is = apart_modes _ SFinish SInit a is (λ h. cc)
+source_init (Is Wire_sent at) is = inl (ap is_idle at.destination)
+source_init (Is Ready_sent at) is = inr (ap is_waiting at.destination)
+source_init (Is g at) is = cc (at.source, is)
 
 -- no destination is in SInit
 destination_init : {src dst : NodeState} {out back : List Message} {X : Type 0} → Phase src dst out back → dst.mode ≡ SInit → X
-destination_init (Resting a b c d f) is = apart_modes _ Empty SInit b is (λ h. cc)
-destination_init (Wire_sent a b c d f) is = apart_modes _ Empty SInit b is (λ h. cc)
-destination_init (Ready_sent a b c d f) is = apart_modes _ DInit SInit b is (λ h. cc)
-destination_init (Dual_sent ms a b c d all f) is = apart_modes _ DInit SInit b is (λ h. cc)
-destination_init (Both_sent ms a b c d all f) is = apart_modes _ DInit SInit b is (λ h. cc)
-destination_init (In_dual a b c d f) is = apart_modes _ DDual SInit b is (λ h. cc)
-destination_init (Finish_sent a b c d f) is = apart_modes _ DDual SInit b is (λ h. cc)
-destination_init (In_finish a b c d f) is = apart_modes _ DFinish SInit b is (λ h. cc)
-destination_init (Done_sent a b c all d f) is = apart_modes _ Normal SInit b is (λ h. cc)
+destination_init (Is Resting at) is = cc (at.destination, is)
+destination_init (Is g at) is = cc (at.destination, is)
 
 -- beside a node in SInit nobody runs yet
 pub unready : (v : View) → Roles v → v.them.mode ≡ SInit → (is_idle v.me.mode ≡ true) ⊎ (is_waiting v.me.mode ≡ true)
@@ -123,21 +105,21 @@ back_set v w t y set active node u m a = elim (cases_eq u t) [
 
 -- whether the event is a begin
 abbrev pub begins : {sc : Scenario} {n : Node} {v w : View} → Event sc n v w → Bool
-begins (Begins t h a new home e) = true
+begins (Begins line e) = true
 begins e = false
 
 -- after an event that is no begin whoever runs ran before
 pub back : {sc : Scenario} {n : Node} {v w : View} (e : Event sc n v w) → begins e ≡ false → (u : ℕ) (m : Node) → IsAt w u m → IsAt v u m
 unfolding did locked shares aborted committed cut txn_at
-back (Begins t h a new home e) is = absurd (false≢true (sym is))
-back {v = v} {w = w} (Aborts t y active here e) is = back_set v w t _ (ap txns_of e) active refl
-back {v = v} {w = w} (GoesOn t x pc regs runs leads e) is = back_set v w t _ (ap txns_of e) runs.active refl
-back {v = v} {w = w} (Gets t r key runs f e) is = back_set v w t _ (ap txns_of e) runs.active refl
-back {v = v} {w = w} (SumsUp t r first last runs f e) is = back_set v w t _ (ap txns_of e) runs.active refl
-back {v = v} {w = w} (Writes t key value runs f there e) is = back_set v w t _ (ap txns_of e) runs.active refl
-back {v = v} {w = w} (Inserts t key value runs f new room e) is = back_set v w t _ (ap txns_of e) runs.active refl
-back {v = v} {w = w} (Splits t key value runs f new full normal pages e) is = λ u m a. subst (λ x. Stands x m) (at_same v w u (ap txns_of e)) a
-back {v = v} {w = w} (Commits t runs all e) is = back_set v w t _ (ap txns_of e) runs.active refl
+back (Begins line e) is = absurd (false≢true (sym is))
+back {v = v} {w = w} (Aborts line e) is = back_set v w line.txn _ (ap txns_of e) line.active refl
+back {v = v} {w = w} (GoesOn line e) is = back_set v w line.txn _ (ap txns_of e) line.runs.active refl
+back {v = v} {w = w} (Gets line e) is = back_set v w line.txn _ (ap txns_of e) line.runs.active refl
+back {v = v} {w = w} (SumsUp line e) is = back_set v w line.txn _ (ap txns_of e) line.runs.active refl
+back {v = v} {w = w} (Writes line e) is = back_set v w line.txn _ (ap txns_of e) line.runs.active refl
+back {v = v} {w = w} (Inserts line e) is = back_set v w line.txn _ (ap txns_of e) line.runs.active refl
+back {v = v} {w = w} (Splits line e) is = λ u m a. subst (λ x. Stands x m) (at_same v w u (ap txns_of e)) a
+back {v = v} {w = w} (Commits line e) is = back_set v w line.txn _ (ap txns_of e) line.runs.active refl
 back {v = v} {w = w} e is = λ u m a. subst (λ x. Stands x m) (at_same v w u (quiet_of e refl).txns) a
 
 -- after a begin whoever runs ran before, or it is the one that began

@@ -27,7 +27,7 @@ use Rattle.zy_laws.proofs.owner.Roles.{Inv, normal_other, turned, turned_inv}
 use Rattle.zy_laws.proofs.serial.Committing.{committed_list, committed_txns}
 use Rattle.zy_laws.proofs.sources.Sorting.{keeps_commits, sorted_first, sorted_last, sorts, sorted_after, then_starts, then_still}
 use Rattle.zy_laws.proofs.walk.Events.{Event, Begins, Aborts, GoesOn, Gets, Runs, SumsUp, Writes, Inserts, Splits, Commits, Asks, Starts, GotWire, GotReady}
-use Rattle.zy_laws.proofs.walk.Events.{GotDual, IsStale, Gives, GotPage, GotLast, GotFinish, GotAll, GotDone, Finishes, Pushes}
+use Rattle.zy_laws.proofs.walk.Events.{GotDual, IsStale, Gives, GotPage, GotLast, GotFinish, GotAll, GotDone, Finishes, Pushes, is_at}
 use Rattle.zy_laws.proofs.walk.Kinds.{in_place_of, quiet_of}
 use Rattle.zy_laws.proofs.walk.Txns.{active_off, at_other, at_same, at_self, new_off}
 
@@ -71,15 +71,15 @@ stay_set v w t y set off u ended = elim (cases_eq u t) [
 -- each event leaves the committed transactions
 pub stays : {sc : Scenario} {n : Node} {v w : View} → Event sc n v w → (u : ℕ) → is_committed (txn_at v u).status ≡ true → txn_at w u ≡ txn_at v u
 unfolding did locked shares txn_at aborted begun committed cut
-stays {v = v} {w = w} (Begins t h a new home e) = stay_set v w t _ (ap txns_of e) (new_off (txn_at v t).status new)
-stays {v = v} {w = w} (Aborts t y active here e) = stay_set v w t _ (ap txns_of e) (active_off (txn_at v t).status active)
-stays {v = v} {w = w} (GoesOn t x pc regs runs leads e) = stay_set v w t _ (ap txns_of e) (active_off (txn_at v t).status runs.active)
-stays {v = v} {w = w} (Gets t r key runs f e) = stay_set v w t _ (ap txns_of e) (active_off (txn_at v t).status runs.active)
-stays {v = v} {w = w} (SumsUp t r first last runs f e) = stay_set v w t _ (ap txns_of e) (active_off (txn_at v t).status runs.active)
-stays {v = v} {w = w} (Writes t key value runs f there e) = stay_set v w t _ (ap txns_of e) (active_off (txn_at v t).status runs.active)
-stays {v = v} {w = w} (Inserts t key value runs f new room e) = stay_set v w t _ (ap txns_of e) (active_off (txn_at v t).status runs.active)
-stays {v = v} {w = w} (Splits t key value runs f new full normal pages e) = λ u _. at_same v w u (ap txns_of e)
-stays {v = v} {w = w} (Commits t runs all e) = stay_set v w t _ (ap txns_of e) (active_off (txn_at v t).status runs.active)
+stays {v = v} {w = w} (Begins line e) = stay_set v w line.txn _ (ap txns_of e) (new_off (txn_at v line.txn).status line.new)
+stays {v = v} {w = w} (Aborts line e) = stay_set v w line.txn _ (ap txns_of e) (active_off (txn_at v line.txn).status line.active)
+stays {v = v} {w = w} (GoesOn line e) = stay_set v w line.txn _ (ap txns_of e) (active_off (txn_at v line.txn).status line.runs.active)
+stays {v = v} {w = w} (Gets line e) = stay_set v w line.txn _ (ap txns_of e) (active_off (txn_at v line.txn).status line.runs.active)
+stays {v = v} {w = w} (SumsUp line e) = stay_set v w line.txn _ (ap txns_of e) (active_off (txn_at v line.txn).status line.runs.active)
+stays {v = v} {w = w} (Writes line e) = stay_set v w line.txn _ (ap txns_of e) (active_off (txn_at v line.txn).status line.runs.active)
+stays {v = v} {w = w} (Inserts line e) = stay_set v w line.txn _ (ap txns_of e) (active_off (txn_at v line.txn).status line.runs.active)
+stays {v = v} {w = w} (Splits line e) = λ u _. at_same v w u (ap txns_of e)
+stays {v = v} {w = w} (Commits line e) = stay_set v w line.txn _ (ap txns_of e) (active_off (txn_at v line.txn).status line.runs.active)
 stays {v = v} {w = w} e = λ u _. at_same v w u (quiet_of e refl).txns
 
 -- a commit at n alone: the list of n has it
@@ -127,14 +127,14 @@ module _ (sc : Scenario) (n : Node) (v : View) (t : ℕ) (runs : Runs sc n t eff
 
 -- each commit after an event is of a committed transaction
 pub all_after : {sc : Scenario} {n : Node} (v w : View) → Event sc n v w → AllCommitted (txn_at v) v.commits → AllCommitted (txn_at w) w.commits
-all_after {sc = sc} {n = n} v w (Commits t runs whole e) all =
-    let z = committed t v in
-    let c : CommitRecord = record { txn = t; done = (txn_at v t).done + 1 } in
-    subst (λ (x : View). AllCommitted (txn_at x) x.commits) (sym e) (subst (AllCommitted (txn_at z)) (sym (committed_list t v))
-    (all_push (txn_at z) v.commits c (all_same_txns (txn_at v) (txn_at z) v.commits (still sc n v t runs all) all)
-    (ap (λ (x : Txn). is_committed x.status) (now sc n v t runs all))))
-all_after {sc = sc} {n = n} v w (Starts at_a normal empty e) all =
-    let q = quiet_of {sc = sc} {n = n} (Starts at_a normal empty e) refl in
+all_after {sc = sc} {n = n} v w (Commits line e) all =
+    let z = committed line.txn v in
+    let c : CommitRecord = record { txn = line.txn; done = (txn_at v line.txn).done + 1 } in
+    subst (λ (x : View). AllCommitted (txn_at x) x.commits) (sym e) (subst (AllCommitted (txn_at z)) (sym (committed_list line.txn v))
+    (all_push (txn_at z) v.commits c (all_same_txns (txn_at v) (txn_at z) v.commits (still sc n v line.txn line.runs all) all)
+    (ap (λ (x : Txn). is_committed x.status) (now sc n v line.txn line.runs all))))
+all_after {sc = sc} {n = n} v w (Starts line e) all =
+    let q = quiet_of {sc = sc} {n = n} (Starts line e) refl in
     subst (AllCommitted (txn_at w)) (sym q.commits) (all_same_txns (txn_at v) (txn_at w) v.commits (λ u _. at_same v w u q.txns) all)
 all_after v w e all = subst (AllCommitted (txn_at w)) (sym (keeps_commits e refl).0) (all_same_txns (txn_at v) (txn_at w) v.commits (stays e) all)
 
@@ -175,23 +175,22 @@ next_mode old new m is far on = inr (λ h. far (sym is ∙ h), λ _. on)
 -- so changes the mode of the node that acts where the other one is no source
 onward : {sc : Scenario} {n : Node} (v w : View) (e : Event sc n v w) → sorts e ≡ false → Inv v → is_source v.them.mode ≡ false → Onward v.me.mode w.me.mode
 unfolding asks leaves cut locked Onward
-onward v w (Commits t runs all e) h i off = absurd (false≢true (sym h))
-onward v w (Starts at_a normal empty e) h i off = absurd (false≢true (sym h))
-onward v w (GotWire sent ms f empty e) h i off =
-    absurd (false≢true (sym off ∙ ap is_source (wire_front v sent ms f empty i.roles).1))
-onward v w (GotReady ms f init e) h i off = next_mode v.me.mode w.me.mode SInit init (λ b. cc) (ap (λ (x : View). is_or_was_source x.me.mode) e)
-onward v w (GotDual ms f init e) h i off = other_mode v.me.mode w.me.mode DInit init (λ b. cc) refl
-onward v w (GotLast leaf ms f finish all e) h i off = other_mode v.me.mode w.me.mode DFinish finish (λ b. cc) refl
-onward v w (GotFinish ms f dual e) h i off = other_mode v.me.mode w.me.mode DDual dual (λ b. cc) refl
-onward v w (GotAll ms f dual all e) h i off = other_mode v.me.mode w.me.mode DDual dual (λ b. cc) refl
-onward v w (GotDone ms f finish e) h i off = next_mode v.me.mode w.me.mode SFinish finish (λ b. cc) (ap (λ (x : View). is_or_was_source x.me.mode) e)
-onward v w (Finishes dual none e) h i off = next_mode v.me.mode w.me.mode SDual dual (λ b. cc) (ap (λ (x : View). is_or_was_source x.me.mode) e)
-onward v w (Splits t key value runs f new full normal pages e) h i off = inl (ap (λ (x : View). x.me.mode) e)
-onward v w (Asks p gone pulls asked e) h i off = inl (ap (λ (x : View). x.me.mode) e)
-onward v w (IsStale p ms f e) h i off = inl (ap (λ (x : View). x.me.mode) e)
-onward v w (Gives p ms f sends own free e) h i off = inl (ap (λ (x : View). x.me.mode) e)
-onward v w (GotPage leaf ms f pulls e) h i off = inl (ap (λ (x : View). x.me.mode) e)
-onward v w (Pushes p finish own e) h i off = inl (ap (λ (x : View). x.me.mode) e)
+onward v w (Commits line e) h i off = absurd (false≢true (sym h))
+onward v w (Starts line e) h i off = absurd (false≢true (sym h))
+onward v w (GotWire line e) h i off = absurd (false≢true (sym off ∙ ap is_source (wire_front v line.lows line.after line.front line.empty i.roles).1))
+onward v w (GotReady line e) h i off = next_mode v.me.mode w.me.mode SInit line.mode (λ b. cc) (ap (λ (x : View). is_or_was_source x.me.mode) e)
+onward v w (GotDual line e) h i off = other_mode v.me.mode w.me.mode DInit line.mode (λ b. cc) refl
+onward v w (GotLast line e) h i off = other_mode v.me.mode w.me.mode DFinish line.mode (λ b. cc) refl
+onward v w (GotFinish line e) h i off = other_mode v.me.mode w.me.mode DDual line.mode (λ b. cc) refl
+onward v w (GotAll line e) h i off = other_mode v.me.mode w.me.mode DDual line.mode (λ b. cc) refl
+onward v w (GotDone line e) h i off = next_mode v.me.mode w.me.mode SFinish line.mode (λ b. cc) (ap (λ (x : View). is_or_was_source x.me.mode) e)
+onward v w (Finishes line e) h i off = next_mode v.me.mode w.me.mode SDual line.dual (λ b. cc) (ap (λ (x : View). is_or_was_source x.me.mode) e)
+onward v w (Splits line e) h i off = inl (ap (λ (x : View). x.me.mode) e)
+onward v w (Asks line e) h i off = inl (ap (λ (x : View). x.me.mode) e)
+onward v w (IsStale line e) h i off = inl (ap (λ (x : View). x.me.mode) e)
+onward v w (Gives line e) h i off = inl (ap (λ (x : View). x.me.mode) e)
+onward v w (GotPage line e) h i off = inl (ap (λ (x : View). x.me.mode) e)
+onward v w (Pushes line e) h i off = inl (ap (λ (x : View). x.me.mode) e)
 onward v w e h i off = inl (in_place_of e refl).mode
 
 -- in version 1, by A's mode: before the start all commits are at A; since then those at A are the first, and those at B the others
@@ -220,28 +219,28 @@ by_same old new f g cs ds o on commits same all (Since leaving a b) =
 pub a_event : (sc : Scenario) (v w : View) (lows : List ℕ) (o : Sorted) (e : Event sc A v w) → Kept sc A v lows → is_source v.them.mode ≡ false
     → AllCommitted (txn_at v) v.commits → ByNode v.me.mode (txn_at v) v.commits o → ByNode w.me.mode (txn_at w) w.commits (sorted_after v w o)
 unfolding committed
-a_event sc v w lows o (Commits t runs whole e) k off all (Before normal a b d) =
-    let c : CommitRecord = record { txn = t; done = (txn_at v t).done + 1 } in
-    let z = committed t v in
+a_event sc v w lows o (Commits line e) k off all (Before normal a b d) =
+    let c : CommitRecord = record { txn = line.txn; done = (txn_at v line.txn).done + 1 } in
+    let z = committed line.txn v in
     subst (λ (x : View). ByNode x.me.mode (txn_at x) x.commits (sorted_after v x o)) (sym e)
     (subst (ByNode v.me.mode (txn_at z) z.commits) (sym (sorted_last (is_source v.me.mode) v.commits c o (ap is_source normal)))
-    (Before normal a (ap (λ xs. xs ++ c ∷ []) b ∙ sym (here_more sc A v t runs all)) (there_same sc A v t runs all ∙ d)))
-a_event sc v w lows o (Commits t runs whole e) k off all (Since leaving a b) =
-    let c : CommitRecord = record { txn = t; done = (txn_at v t).done + 1 } in
-    let z = committed t v in
-    let source = leaving_source v.me.mode leaving (k.mine.busy t (runs.active, runs.here)) in
+    (Before normal a (ap (λ xs. xs ++ c ∷ []) b ∙ sym (here_more sc A v line.txn line.runs all)) (there_same sc A v line.txn line.runs all ∙ d)))
+a_event sc v w lows o (Commits line e) k off all (Since leaving a b) =
+    let c : CommitRecord = record { txn = line.txn; done = (txn_at v line.txn).done + 1 } in
+    let z = committed line.txn v in
+    let source = leaving_source v.me.mode leaving (k.mine.busy line.txn (is_at line.runs)) in
     subst (λ (x : View). ByNode x.me.mode (txn_at x) x.commits (sorted_after v x o)) (sym e)
     (subst (ByNode v.me.mode (txn_at z) z.commits) (sym (sorted_first (is_source v.me.mode) v.commits c o source))
-    (Since leaving (ap (λ xs. xs ++ c ∷ []) a ∙ sym (here_more sc A v t runs all)) (b ∙ sym (there_same sc A v t runs all))))
-a_event sc v w lows o (Starts at_a normal empty e) k off all (Before n a b d) =
-    let q = quiet_of {sc = sc} {n = A} (Starts at_a normal empty e) refl in
+    (Since leaving (ap (λ xs. xs ++ c ∷ []) a ∙ sym (here_more sc A v line.txn line.runs all)) (b ∙ sym (there_same sc A v line.txn line.runs all))))
+a_event sc v w lows o (Starts line e) k off all (Before n a b d) =
+    let q = quiet_of {sc = sc} {n = A} (Starts line e) refl in
     let still : (u : ℕ) → is_committed (txn_at v u).status ≡ true → txn_at w u ≡ txn_at v u = λ u _. at_same v w u q.txns in
     let x = at_same_txns A (txn_at v) (txn_at w) v.commits still all in
     let y = at_same_txns B (txn_at v) (txn_at w) v.commits still all in
-    subst (ByNode w.me.mode (txn_at w) w.commits) (sym (then_starts v w o normal (ap (λ (z : View). is_source z.me.mode) e)))
+    subst (ByNode w.me.mode (txn_at w) w.commits) (sym (then_starts v w o line.normal (ap (λ (z : View). is_source z.me.mode) e)))
     (subst (λ cs. ByNode w.me.mode (txn_at w) cs (record { first = o.first ++ o.later; later = [] })) (sym q.commits)
     (Since (ap (λ (z : View). is_or_was_source z.me.mode) e) (ap (λ xs. xs ++ o.later) a ∙ b ∙ sym x) (sym d ∙ sym y)))
-a_event sc v w lows o (Starts at_a normal empty e) k off all (Since leaving a b) = absurd (false≢true (sym (ap is_or_was_source normal) ∙ leaving))
+a_event sc v w lows o (Starts line e) k off all (Since leaving a b) = absurd (false≢true (sym (ap is_or_was_source line.normal) ∙ leaving))
 a_event sc v w lows o e k off all by =
     subst (ByNode w.me.mode (txn_at w) w.commits) (sym (then_still o e refl))
     (by_same v.me.mode w.me.mode (txn_at v) (txn_at w) v.commits w.commits o (onward v w e refl k.inv off) (keeps_commits e refl).0 (stays e) all by)
@@ -251,17 +250,17 @@ pub b_event : (sc : Scenario) (v w : View) (lows : List ℕ) (o : Sorted) (e : E
     → w.them ≡ v.them → AllCommitted (txn_at v) v.commits → ByNode v.them.mode (txn_at v) v.commits o
     → ByNode w.them.mode (txn_at w) w.commits (sorted_after v w o)
 unfolding committed Onward
-b_event sc v w lows o (Commits t runs whole e) one k off them all (Before normal a b d) =
+b_event sc v w lows o (Commits line e) one k off them all (Before normal a b d) =
     let i = turned_inv v k.inv in
     let idle = normal_other (turned v) i.roles (ap may_split normal) in
-    absurd (false≢true (sym (k.mine.busy t (runs.active, runs.here)) ∙ idle.0))
-b_event sc v w lows o (Commits t runs whole e) one k off them all (Since leaving a b) =
-    let c : CommitRecord = record { txn = t; done = (txn_at v t).done + 1 } in
-    let z = committed t v in
+    absurd (false≢true (sym (k.mine.busy line.txn (is_at line.runs)) ∙ idle.0))
+b_event sc v w lows o (Commits line e) one k off them all (Since leaving a b) =
+    let c : CommitRecord = record { txn = line.txn; done = (txn_at v line.txn).done + 1 } in
+    let z = committed line.txn v in
     subst (λ (x : View). ByNode x.them.mode (txn_at x) x.commits (sorted_after v x o)) (sym e)
     (subst (ByNode v.them.mode (txn_at z) z.commits) (sym (sorted_last (is_source v.me.mode) v.commits c o off))
-    (Since leaving (a ∙ sym (there_same sc B v t runs all)) (ap (λ xs. xs ++ c ∷ []) b ∙ sym (here_more sc B v t runs all))))
-b_event sc v w lows o (Starts at_a normal empty e) one k off them all by = let h : B ≡ A = at_a one in absurd cc
+    (Since leaving (a ∙ sym (there_same sc B v line.txn line.runs all)) (ap (λ xs. xs ++ c ∷ []) b ∙ sym (here_more sc B v line.txn line.runs all))))
+b_event sc v w lows o (Starts line e) one k off them all by = let h : B ≡ A = line.at_a one in absurd cc
 b_event sc v w lows o e one k off them all by =
     subst (ByNode w.them.mode (txn_at w) w.commits) (sym (then_still o e refl))
     (by_same v.them.mode w.them.mode (txn_at v) (txn_at w) v.commits w.commits o (inl (ap (λ (x : NodeState). x.mode) them)) (keeps_commits e refl).0 (stays e)

@@ -34,7 +34,7 @@ use Rattle.zy_laws.specs.SourceFirst.{Sorted}
 use Rattle.zy_laws.proofs.locks.Locking.{Kept, nobody_runs}
 use Rattle.zy_laws.proofs.locks.Runners.{has_lock_locking}
 use Rattle.zy_laws.proofs.owner.PageCounts.{owns_none}
-use Rattle.zy_laws.proofs.owner.Phases.{Done_sent, Resting, begins_length, destination_is, source_is}
+use Rattle.zy_laws.proofs.owner.Phases.{Is, Done_sent, Resting, begins_length}
 use Rattle.zy_laws.proofs.owner.Roles.{Destination, Inv, Roles, Source, normal_other}
 use Rattle.zy_laws.proofs.places.PageValues.{db}
 use Rattle.zy_laws.proofs.serial.CutValues.{cut_db}
@@ -51,14 +51,14 @@ use Rattle.zy_laws.proofs.walk.Txns.{IsAt, Stands, active_off, at_other, at_same
 
 -- beside a node in Normal the other one has no page
 none_beside : (v : View) → Inv v → Roles v → may_split v.me.mode ≡ true → (p : ℕ) → owns v.them.pages p ≡ false
-none_beside v i (Source (Resting a b c d f)) h p = ap (λ xs. owns xs p) (i.theirs.none (ap is_bare b))
-none_beside v i (Source ph) h p = cc (source_is ph)
-none_beside v i (Destination (Done_sent a b c all d f)) h p =
+none_beside v i (Source (Is Resting at)) h p = ap (λ xs. owns xs p) (i.theirs.none (ap is_bare at.destination))
+none_beside v i (Source (Is g at)) h p = cc at.source
+none_beside v i (Destination (Is Done_sent at)) h p =
     let k = i.owned.once p in
-    let there = all.each p in
-    let wide = begins_length v.them.lows v.me.lows c in
+    let there = at.lows.there.each p in
+    let wide = begins_length v.them.lows v.me.lows at.lows.begins in
     owns_none p v.them.pages (grind (arith, nat_tests, k, there, wide))
-none_beside v i (Destination ph) h p = cc (destination_is ph)
+none_beside v i (Destination (Is g at)) h p = cc at.destination
 
 -- a state whose commits are sorted, and its newest low keys
 module _ (sc : Scenario) (n : Node) (v : View) (start : Map) (lows : List ℕ) (o : Sorted) (s : Divided sc n v start lows o) where

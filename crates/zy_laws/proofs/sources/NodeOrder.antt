@@ -128,20 +128,20 @@ still_theirs v w them s = sym (ap (λ (x : NodeState). is_source x.mode) them) �
 -- each event keeps it
 owned_event : (sc : Scenario) (n : Node) (v w : View) (o : Sorted) → Event sc n v w → w.them ≡ v.them → Owned n v o → Owned n w (sorted_after v w o)
 unfolding committed
-owned_event sc n v w o (Commits t runs all e) them h =
-    let c : CommitRecord = record { txn = t; done = (txn_at v t).done + 1 } in
-    let z = committed t v in
-    let event : Event sc n v z = Commits t runs all refl in
-    let now = at_self v z t _ (committed_txns t v) runs.active in
+owned_event sc n v w o (Commits line e) them h =
+    let c : CommitRecord = record { txn = line.txn; done = (txn_at v line.txn).done + 1 } in
+    let z = committed line.txn v in
+    let event : Event sc n v z = Commits line refl in
+    let now = at_self v z line.txn _ (committed_txns line.txn v) line.runs.active in
     let s = is_source v.me.mode in
     let same = own_same n s (is_source v.them.mode) s (is_source v.them.mode) (txn_at v) (txn_at z) v.commits o (stays event) (λ i. i) (λ i. i) h in
     subst (λ x. Owned n x (sorted_after v x o)) (sym e)
     (subst (λ xs. Owned n z (sorted_by s s xs o)) (sym (drop-append_seam v.commits (c ∷ [])))
     (own_more n s (is_source v.them.mode) (txn_at z) v.commits c o (ap (λ (x : Txn). is_committed x.status) now)
-    (ap (λ (x : Txn). x.node) now ∙ runs.here) same))
-owned_event sc n v w o (Starts at_a normal empty e) them h =
-    let q = quiet_of {sc = sc} {n = n} (Starts at_a normal empty e) refl in
-    subst (Owned n w) (sym (then_starts v w o normal (ap (λ (z : View). is_source z.me.mode) e)))
+    (ap (λ (x : Txn). x.node) now ∙ line.runs.here) same))
+owned_event sc n v w o (Starts line e) them h =
+    let q = quiet_of {sc = sc} {n = n} (Starts line e) refl in
+    subst (Owned n w) (sym (then_starts v w o line.normal (ap (λ (z : View). is_source z.me.mode) e)))
     (subst (λ cs. Own n (is_source w.me.mode) (is_source w.them.mode) (txn_at w) cs (record { first = o.first ++ o.later; later = [] })) (sym q.commits)
     (own_same n (is_source w.me.mode) (is_source v.them.mode) (is_source w.me.mode) (is_source w.them.mode) (txn_at v) (txn_at w) v.commits
     (record { first = o.first ++ o.later; later = [] })

@@ -5,10 +5,8 @@ use Rattle.std.proofs.Math.Seq.{drop-append_seam, drop-length}
 use Rattle.std.proofs.lemmas.Bool.{cases_Bool, cond_both, false≢true, or_parts}
 use Rattle.zy_isa.specs.Scenario.{Scenario}
 use Rattle.zy_isa.specs.declared.node.Node.{Node}
-use Rattle.zy_isa.specs.declared.node.Node.TheVariants.{A}
-use Rattle.zy_isa.specs.declared.version.Version.TheVariants.{One}
 use Rattle.zy_model.specs.Messages.{Wire}
-use Rattle.zy_model.specs.declared.mode.NodeMode.TheVariants.{Empty, Normal, SInit}
+use Rattle.zy_model.specs.declared.mode.NodeMode.TheVariants.{Normal, SInit}
 use Rattle.zy_model.specs.declared.lock.LockKind.TheVariants.{Exclusive, Shared}
 use Rattle.zy_model.specs.Families.{is_idle, is_source}
 use Rattle.zy_table.specs.Change.{aborted, asks, begun, committed, cut, did, leaves, locked, shares, turns, txn_at}
@@ -31,7 +29,8 @@ use Rattle.zy_laws.proofs.sources.Going.{aborted_divided, begun_divided, cut_div
 use Rattle.zy_laws.proofs.sources.Going.{starts_divided, stays_divided, sum_on, there_on}
 use Rattle.zy_laws.proofs.sources.Halves.{Divided}
 use Rattle.zy_laws.proofs.walk.Events.{Event, Rests, Begins, Aborts, GoesOn, Gets, SumsUp, Writes, Inserts, Splits, Commits, Asks, Starts, GotWire, GotReady}
-use Rattle.zy_laws.proofs.walk.Events.{GotDual, IsStale, Gives, GotPage, GotLast, GotFinish, GotAll, GotDone, Finishes, Pushes, lows_after, sum_at, value_at}
+use Rattle.zy_laws.proofs.walk.Events.{GotDual, IsStale, Gives, GotPage, GotLast, GotFinish, GotAll, GotDone, Finishes, Pushes}
+use Rattle.zy_laws.proofs.walk.Events.{Starting, is_at, lows_after, sum_at, value_at}
 use Rattle.zy_laws.proofs.walk.Kinds.{Quiet, of_txn, quiet_of}
 
 -- a page that was not here is not here without another one
@@ -61,27 +60,27 @@ wanes_on v w before after pages = record { less = λ s. (before, λ p h. ap (λ 
 
 -- whether the event is a start
 abbrev starts : {sc : Scenario} {n : Node} {v w : View} → Event sc n v w → Bool
-starts (Starts at_a normal empty e) = true
+starts (Starts line e) = true
 starts e = false
 
 -- an event of no transaction that is no start
 wanes_of : {sc : Scenario} {n : Node} {v w : View} (e : Event sc n v w) → of_txn e ≡ false → starts e ≡ false → Wanes v w
 unfolding asks leaves
 wanes_of {v = v} (Rests e) h s = rw e (wanes_same v _ refl (λ p o. o))
-wanes_of {v = v} (Asks p gone pulls asked e) h s = rw e (wanes_same v _ refl (λ p o. o))
-wanes_of {v = v} (GotWire lows ms f empty e) h s = rw e (wanes_off v _ (ap is_source empty) refl)
-wanes_of {v = v} (GotReady ms f init e) h s = rw e (wanes_on v _ (ap is_source init) refl refl)
-wanes_of {v = v} (GotDual ms f init e) h s = rw e (wanes_off v _ (ap is_source init) refl)
-wanes_of {v = v} (IsStale p ms f e) h s = rw e (wanes_same v _ refl (λ p o. o))
-wanes_of {v = v} (Gives p ms f sends own free e) h s = rw e (wanes_same v _ refl (λ q o. without_less p q v.me.pages o))
-wanes_of {v = v} (GotPage leaf ms f pulls e) h s = let off = takes_in v.me.mode pulls in rw e (wanes_off v _ off off)
-wanes_of {v = v} (GotLast leaf ms f finish all e) h s = rw e (wanes_off v _ (ap is_source finish) refl)
-wanes_of {v = v} (GotFinish ms f dual e) h s = rw e (wanes_off v _ (ap is_source dual) refl)
-wanes_of {v = v} (GotAll ms f dual all e) h s = rw e (wanes_off v _ (ap is_source dual) refl)
-wanes_of {v = v} (GotDone ms f finish e) h s = rw e (record { less = λ a. absurd (false≢true a); mode = inl (ap is_idle finish) })
-wanes_of {v = v} (Finishes dual none e) h s = rw e (wanes_on v _ (ap is_source dual) refl refl)
-wanes_of {v = v} (Pushes p finish own e) h s = rw e (wanes_same v _ refl (λ q o. without_less p q v.me.pages o))
-wanes_of (Starts at_a normal empty e) h s = absurd (false≢true (sym s))
+wanes_of {v = v} (Asks line e) h s = rw e (wanes_same v _ refl (λ p o. o))
+wanes_of {v = v} (GotWire line e) h s = rw e (wanes_off v _ (ap is_source line.empty) refl)
+wanes_of {v = v} (GotReady line e) h s = rw e (wanes_on v _ (ap is_source line.mode) refl refl)
+wanes_of {v = v} (GotDual line e) h s = rw e (wanes_off v _ (ap is_source line.mode) refl)
+wanes_of {v = v} (IsStale line e) h s = rw e (wanes_same v _ refl (λ p o. o))
+wanes_of {v = v} (Gives line e) h s = rw e (wanes_same v _ refl (λ q o. without_less line.page q v.me.pages o))
+wanes_of {v = v} (GotPage line e) h s = let off = takes_in v.me.mode line.pulls in rw e (wanes_off v _ off off)
+wanes_of {v = v} (GotLast line e) h s = rw e (wanes_off v _ (ap is_source line.mode) refl)
+wanes_of {v = v} (GotFinish line e) h s = rw e (wanes_off v _ (ap is_source line.mode) refl)
+wanes_of {v = v} (GotAll line e) h s = rw e (wanes_off v _ (ap is_source line.mode) refl)
+wanes_of {v = v} (GotDone line e) h s = rw e (record { less = λ a. absurd (false≢true a); mode = inl (ap is_idle line.mode) })
+wanes_of {v = v} (Finishes line e) h s = rw e (wanes_on v _ (ap is_source line.dual) refl refl)
+wanes_of {v = v} (Pushes line e) h s = rw e (wanes_same v _ refl (λ q o. without_less line.page q v.me.pages o))
+wanes_of (Starts line e) h s = absurd (false≢true (sym s))
 wanes_of e h s = absurd (false≢true (sym h))
 
 -- where nothing commits and no node becomes a source, the commits stay sorted as they are
@@ -117,37 +116,39 @@ along {sc = sc} {n = n} {start = start} {lows = lows} {o = o} e k f =
 
 -- whether the event is a commit or a start, which change the sorted commits
 abbrev pub sorts : {sc : Scenario} {n : Node} {v w : View} → Event sc n v w → Bool
-sorts (Commits t runs all e) = true
-sorts (Starts at_a normal empty e) = true
+sorts (Commits line e) = true
+sorts (Starts line e) = true
 sorts e = false
 
 -- any other event keeps it with the commits sorted as they are
 pub keeps_event : (sc : Scenario) (n : Node) (v w : View) (start : Map) (lows : List ℕ) (o : Sorted) → Divided sc n v start lows o → (e : Event sc n v w)
     → sorts e ≡ false → Kept sc n w (lows_after sc n v w lows e) → Divided sc n w start (lows_after sc n v w lows e) o
-keeps_event sc n v w start lows o s (Commits t runs all e) h k = absurd (false≢true (sym h))
-keeps_event sc n v w start lows o s (Starts at_a normal empty e) h k = absurd (false≢true (sym h))
-keeps_event sc n v w start lows o s (Begins t i a new home e) h k = along e k (begun_divided sc n v start lows o s t i new)
-keeps_event sc n v w start lows o s (Aborts t y active here e) h k = along e k (aborted_divided sc n v start lows o s t y (active, here))
-keeps_event sc n v w start lows o s (GoesOn t x pc regs runs leads e) h k = along e k (goes_divided sc n v start lows o s t x pc regs runs leads)
-keeps_event sc n v w start lows o s (SumsUp t r a b runs f e) h k = along e k
-    (range_divided sc n v start lows o s t a b _ _ (effect.Sums r a b) runs (λ keys.
-    small_sum (mine_on sc n v start lows o s) r a b (txn_at v t) keys (sum_at t a b v) f.rises f.small
-    (sum_on sc n v start lows o s t a b (runs.active, runs.here) f)))
-keeps_event sc n v w start lows o s (Gets t r key runs f e) h k = along e k
-    (key_divided sc n v start lows o s t key Shared _ _ _ (effect.Accesses (Reads r) key) runs (λ keys.
-    small_read (mine_on sc n v start lows o s) key (txn_at v t) keys f.small r (value_at t key v)
-    (read_on sc n v start lows o s t key (runs.active, runs.here) f.here)))
-keeps_event sc n v w start lows o s (Writes t key value runs f there e) h k = along e k
-    (key_divided sc n v start lows o s t key Exclusive _ _ _ (effect.Accesses (access.Writes value) key) runs (λ keys.
-    small_write (mine_on sc n v start lows o s) key (txn_at v t) keys f.small value
-    (there_on sc n v start lows o s t key Exclusive (runs.active, runs.here) f ∙ there)))
-keeps_event sc n v w start lows o s (Inserts t key value runs f new room e) h k = along e k
-    (key_divided sc n v start lows o s t key Exclusive _ _ _ (effect.Accesses (access.Inserts value) key) runs (λ keys.
-    small_insert (mine_on sc n v start lows o s) key (txn_at v t) keys f.small value
-    (there_on sc n v start lows o s t key Exclusive (runs.active, runs.here) f ∙ new)))
-keeps_event sc n v w start lows o s (Splits t key value runs f new full normal pages e) h k =
-    let on = split_on sc n v lows t s.kept (runs.active, runs.here) key full in
-    along e k (cut_divided sc n v start lows o s t key _ (runs.active, runs.here) f normal on)
+keeps_event sc n v w start lows o s (Commits line e) h k = absurd (false≢true (sym h))
+keeps_event sc n v w start lows o s (Starts line e) h k = absurd (false≢true (sym h))
+keeps_event sc n v w start lows o s (Begins line e) h k = along e k (begun_divided sc n v start lows o s line.txn line.home line.new)
+keeps_event sc n v w start lows o s (Aborts line e) h k = along e k (aborted_divided sc n v start lows o s line.txn line.cause (line.active, line.here))
+keeps_event sc n v w start lows o s (GoesOn line e) h k =
+    along e k (goes_divided sc n v start lows o s line.txn line.act line.pc line.regs line.runs line.leads)
+keeps_event sc n v w start lows o s (SumsUp line e) h k = along e k
+    (range_divided sc n v start lows o s line.txn line.first line.last _ _ (effect.Sums line.register line.first line.last) line.runs (λ keys.
+    small_sum (mine_on sc n v start lows o s) line.register line.first line.last (txn_at v line.txn) keys
+    (sum_at line.txn line.first line.last v) line.free.rises line.free.small
+    (sum_on sc n v start lows o s line.txn line.first line.last (is_at line.runs) line.free)))
+keeps_event sc n v w start lows o s (Gets line e) h k = along e k
+    (key_divided sc n v start lows o s line.txn line.key Shared _ _ _ (effect.Accesses (Reads line.register) line.key) line.runs (λ keys.
+    small_read (mine_on sc n v start lows o s) line.key (txn_at v line.txn) keys line.free.small line.register (value_at line.txn line.key v)
+    (read_on sc n v start lows o s line.txn line.key (is_at line.runs) line.free.here)))
+keeps_event sc n v w start lows o s (Writes line e) h k = along e k
+    (key_divided sc n v start lows o s line.txn line.key Exclusive _ _ _ (effect.Accesses (access.Writes line.value) line.key) line.runs (λ keys.
+    small_write (mine_on sc n v start lows o s) line.key (txn_at v line.txn) keys line.free.small line.value
+    (there_on sc n v start lows o s line.txn line.key Exclusive (is_at line.runs) line.free ∙ line.there)))
+keeps_event sc n v w start lows o s (Inserts line e) h k = along e k
+    (key_divided sc n v start lows o s line.txn line.key Exclusive _ _ _ (effect.Accesses (access.Inserts line.value) line.key) line.runs (λ keys.
+    small_insert (mine_on sc n v start lows o s) line.key (txn_at v line.txn) keys line.free.small line.value
+    (there_on sc n v start lows o s line.txn line.key Exclusive (is_at line.runs) line.free ∙ line.absent)))
+keeps_event sc n v w start lows o s (Splits line e) h k =
+    let on = split_on sc n v lows line.txn s.kept (is_at line.runs) line.key line.full in
+    along e k (cut_divided sc n v start lows o s line.txn line.key _ (is_at line.runs) line.free line.normal on)
 keeps_event sc n v w start lows o s e h k =
     let q = quiet_of e refl in
     let x = wanes_of e refl refl in
@@ -160,27 +161,27 @@ keeps_event sc n v w start lows o s e h k =
 pub keeps_commits : {sc : Scenario} {n : Node} {v w : View} (e : Event sc n v w) → sorts e ≡ false
     → (w.commits ≡ v.commits) × (is_source w.me.mode ≡ true → is_source v.me.mode ≡ true)
 unfolding did locked shares txn_at aborted begun cut
-keeps_commits (Commits t runs all e) h = absurd (false≢true (sym h))
-keeps_commits (Starts at_a normal empty e) h = absurd (false≢true (sym h))
-keeps_commits (Begins t i a new home e) h = rw e (refl, λ s. s)
-keeps_commits (Aborts t y active here e) h = rw e (refl, λ s. s)
-keeps_commits (GoesOn t x pc regs runs leads e) h = rw e (refl, λ s. s)
-keeps_commits (SumsUp t r a b runs f e) h = rw e (refl, λ s. s)
-keeps_commits (Gets t r key runs f e) h = rw e (refl, λ s. s)
-keeps_commits (Writes t key value runs f there e) h = rw e (refl, λ s. s)
-keeps_commits (Inserts t key value runs f new room e) h = rw e (refl, λ s. s)
-keeps_commits (Splits t key value runs f new full normal pages e) h = rw e (refl, λ s. s)
+keeps_commits (Commits line e) h = absurd (false≢true (sym h))
+keeps_commits (Starts line e) h = absurd (false≢true (sym h))
+keeps_commits (Begins line e) h = rw e (refl, λ s. s)
+keeps_commits (Aborts line e) h = rw e (refl, λ s. s)
+keeps_commits (GoesOn line e) h = rw e (refl, λ s. s)
+keeps_commits (SumsUp line e) h = rw e (refl, λ s. s)
+keeps_commits (Gets line e) h = rw e (refl, λ s. s)
+keeps_commits (Writes line e) h = rw e (refl, λ s. s)
+keeps_commits (Inserts line e) h = rw e (refl, λ s. s)
+keeps_commits (Splits line e) h = rw e (refl, λ s. s)
 keeps_commits e h = ((quiet_of e refl).commits, λ s. ((wanes_of e refl refl).less s).0)
 
 -- a start: all commits so far come before those of the migration
-started : (sc : Scenario) (n : Node) (v w : View) (start : Map) (lows : List ℕ) (o : Sorted) → Divided sc n v start lows o → (sc.version ≡ One → n ≡ A)
-    → v.me.mode ≡ Normal → v.them.mode ≡ Empty → w ≡ post (Wire v.me.lows) (turns SInit v) → Kept sc n w lows
+started : (sc : Scenario) (n : Node) (v w : View) (start : Map) (lows : List ℕ) (o : Sorted) → Divided sc n v start lows o
+    → Starting sc n v → w ≡ post (Wire v.me.lows) (turns SInit v) → Kept sc n w lows
     → Divided sc n w start lows (record { first = o.first ++ o.later; later = [] })
-started sc n v w start lows o s at_a normal empty e k =
-    let event : Event sc n v w = Starts at_a normal empty e in
+started sc n v w start lows o s line e k =
+    let event : Event sc n v w = Starts line e in
     let q : Quiet v w = quiet_of event refl in
-    starts_divided sc n v start lows o s w q (event_db sc n v w lows s.kept event q.commits) k (ap is_source normal)
-    (ap (λ (z : View). is_source z.me.mode) e) (ap is_source empty)
+    starts_divided sc n v start lows o s w q (event_db sc n v w lows s.kept event q.commits) k (ap is_source line.normal)
+    (ap (λ (z : View). is_source z.me.mode) e) (ap is_source line.empty)
 
 -- the commits after a step from v to w
 abbrev pub sorted_after : View → View → Sorted → Sorted
@@ -202,18 +203,18 @@ then_starts v w o normal source =
 pub divided_event : (sc : Scenario) (n : Node) (v w : View) (start : Map) (lows : List ℕ) (o : Sorted) → Divided sc n v start lows o → (e : Event sc n v w)
     → Kept sc n w (lows_after sc n v w lows e) → Divided sc n w start (lows_after sc n v w lows e) (sorted_after v w o)
 unfolding committed
-divided_event sc n v w start lows o s (Commits t runs all e) k =
-    let c : CommitRecord = record { txn = t; done = (txn_at v t).done + 1 } in
+divided_event sc n v w start lows o s (Commits line e) k =
+    let c : CommitRecord = record { txn = line.txn; done = (txn_at v line.txn).done + 1 } in
     subst (λ z. Divided sc n z start lows (sorted_after v z o)) (sym e) (let j = subst (λ z. Kept sc n z lows) e k in
     elim (cases_Bool (is_source v.me.mode)) [
-      | inl source ↦ subst (Divided sc n (committed t v) start lows) (sym (sorted_first (is_source v.me.mode) v.commits c o source))
-          (source_commit sc n v start lows o t s runs all source j)
-      | inr off ↦ subst (Divided sc n (committed t v) start lows) (sym (sorted_last (is_source v.me.mode) v.commits c o off))
-          (last_commit sc n v start lows o t s runs all off j)
+      | inl source ↦ subst (Divided sc n (committed line.txn v) start lows) (sym (sorted_first (is_source v.me.mode) v.commits c o source))
+          (source_commit sc n v start lows o line.txn s line.runs line.none_gone source j)
+      | inr off ↦ subst (Divided sc n (committed line.txn v) start lows) (sym (sorted_last (is_source v.me.mode) v.commits c o off))
+          (last_commit sc n v start lows o line.txn s line.runs line.none_gone off j)
     ])
-divided_event sc n v w start lows o s (Starts at_a normal empty e) k =
-    subst (Divided sc n w start lows) (sym (then_starts v w o normal (ap (λ (z : View). is_source z.me.mode) e)))
-    (started sc n v w start lows o s at_a normal empty e k)
+divided_event sc n v w start lows o s (Starts line e) k =
+    subst (Divided sc n w start lows) (sym (then_starts v w o line.normal (ap (λ (z : View). is_source z.me.mode) e)))
+    (started sc n v w start lows o s line e k)
 divided_event sc n v w start lows o s e k =
     subst (Divided sc n w start (lows_after sc n v w lows e)) (sym (then_still o e refl)) (keeps_event sc n v w start lows o s e refl k)
 
@@ -226,13 +227,13 @@ pub serial_event : (sc : Scenario) (n : Node) (v w : View) (start : Map) (lows :
     → Divided sc n v start lows (in_order v.commits) → (e : Event sc n v w)
     → Kept sc n w (lows_after sc n v w lows e) → Divided sc n w start (lows_after sc n v w lows e) (in_order w.commits)
 unfolding committed
-serial_event sc n v w start lows held s (Commits t runs all e) k =
+serial_event sc n v w start lows held s (Commits line e) k =
     subst (λ z. Divided sc n z start lows (in_order z.commits)) (sym e)
-    (held_commit sc n v start lows (in_order v.commits) t s runs all held refl (subst (λ z. Kept sc n z lows) e k))
-serial_event sc n v w start lows held s (Starts at_a normal empty e) k =
-    let q : Quiet v w = quiet_of {sc = sc} {n = n} (Starts at_a normal empty e) refl in
+    (held_commit sc n v start lows (in_order v.commits) line.txn s line.runs line.none_gone held refl (subst (λ z. Kept sc n z lows) e k))
+serial_event sc n v w start lows held s (Starts line e) k =
+    let q : Quiet v w = quiet_of {sc = sc} {n = n} (Starts line e) refl in
     subst (λ cs. Divided sc n w start lows (in_order cs)) (append-nil v.commits ∙ sym q.commits)
-    (started sc n v w start lows (in_order v.commits) s at_a normal empty e k)
+    (started sc n v w start lows (in_order v.commits) s line e k)
 serial_event sc n v w start lows held s e k =
     subst (λ cs. Divided sc n w start (lows_after sc n v w lows e) (in_order cs)) (sym (keeps_commits e refl).0)
     (keeps_event sc n v w start lows (in_order v.commits) s e refl k)

@@ -32,7 +32,7 @@ use Rattle.zy_laws.proofs.walk.ModeLines.{pulls_in, sends_in, splits_in_normal}
 use Rattle.zy_laws.proofs.owner.MovingPages.{all_below-owns}
 use Rattle.zy_laws.proofs.travel.OneWay.{sourced}
 use Rattle.zy_laws.proofs.places.Opening.{laid_out}
-use Rattle.zy_laws.proofs.owner.Phases.{Phase, Resting, source_is}
+use Rattle.zy_laws.proofs.owner.Phases.{Phase, Is, At, Resting}
 use Rattle.zy_laws.proofs.owner.PhaseSteps.{taker_of}
 use Rattle.zy_laws.proofs.walk.PlayPush.{play-keeps-with}
 use Rattle.zy_laws.proofs.locks.Reached.{Reached, kept_from, lows_then, opening_reached, reached, step_kept}
@@ -87,36 +87,35 @@ pulls_busy m s = elim (pulls_in m s) [ inl e ↦ ap is_idle e | inr e ↦ ap is_
 asked_event : (sc : Scenario) (n : Node) (o : Outcome) (v w : View) (lows : List ℕ) → Kept sc n v lows → Asked v.me → (e : Event sc n v w) → Told e o
     → Asked w.me
 unfolding did locked shares txn_at aborted begun committed cut asks leaves
-asked_event sc n o v w lows k a (Splits t key value runs f new full normal pages e) told =
-    rw e (asked_none _ (a.none (ap may_pull (splits_in_normal v.me.mode normal))))
-asked_event sc n o v w lows k a (Commits t runs all e) told =
-    rw e (asked_same v.me _ refl refl refl (λ p. owns-installed v.me.lows (txn_at v t).rows v.me.pages p) a)
-asked_event sc n o v w lows k a (Asks p gone pulls new e) told =
-    let first : v.me.lows ≡ 0 ∷ k.first.0 = k.mine.newest (pulls_busy v.me.mode pulls) ∙ k.first.1 in
+asked_event sc n o v w lows k a (Splits line e) told = rw e (asked_none _ (a.none (ap may_pull (splits_in_normal v.me.mode line.normal))))
+asked_event sc n o v w lows k a (Commits line e) told =
+    rw e (asked_same v.me _ refl refl refl (λ p. owns-installed v.me.lows (txn_at v line.txn).rows v.me.pages p) a)
+asked_event sc n o v w lows k a (Asks line e) told =
+    let first : v.me.lows ≡ 0 ∷ k.first.0 = k.mine.newest (pulls_busy v.me.mode line.pulls) ∙ k.first.1 in
     let within : page_of v.me.lows told.0 < length v.me.lows = subst (λ l. page_of l told.0 < length l) (sym first)
     (page_of-within (0 ∷ k.first.0) told.0 (omega arith)) in
-    let low : p < length v.me.lows = subst (λ z. z < length v.me.lows) (sym told.1) within in
+    let low : line.page < length v.me.lows = subst (λ z. z < length v.me.lows) (sym told.1) within in
     rw e (record {
-      none = λ off. absurd (false≢true (sym off ∙ pulls));
-      away = λ q h. elim (has-put p v.me.asked q h) [
-        | inl same ↦ (subst (λ z. owns v.me.pages z ≡ false) same gone, subst (λ z. z < length v.me.lows) same low)
+      none = λ off. absurd (false≢true (sym off ∙ line.pulls));
+      away = λ q h. elim (has-put line.page v.me.asked q h) [
+        | inl same ↦ (subst (λ z. owns v.me.pages z ≡ false) same line.gone, subst (λ z. z < length v.me.lows) same low)
         | inr old ↦ a.away q old
       ];
     })
-asked_event sc n o v w lows k a (Starts at_a normal empty e) told = rw e (asked_none _ (a.none (ap may_pull normal)))
-asked_event sc n o v w lows k a (GotWire sent ms f empty e) told = rw e (asked_none _ (a.none (ap may_pull empty)))
-asked_event sc n o v w lows k a (GotReady ms f init e) told = rw e (asked_none _ (a.none (ap may_pull init)))
-asked_event sc n o v w lows k a (GotDual ms f init e) told = rw e (asked_none _ (a.none (ap may_pull init)))
-asked_event sc n o v w lows k a (IsStale p ms f e) told = rw e (asked_same v.me _ refl refl refl (λ p. refl) a)
-asked_event sc n o v w lows k a (Gives p ms f sends own free e) told = rw e (asked_none _ (a.none (sends_none v.me.mode sends)))
-asked_event sc n o v w lows k a (GotPage leaf ms f pulls e) told =
-    rw e (record { none = λ off. absurd (false≢true (sym off ∙ pulls)); away = arrived_away leaf v.me a })
-asked_event sc n o v w lows k a (GotLast leaf ms f finish all e) told = rw e (asked_none _ (asked_all (with_arrived leaf v.me) (arrived_away leaf v.me a) all))
-asked_event sc n o v w lows k a (GotFinish ms f dual e) told = rw e (record { none = λ off. absurd (false≢true (sym off)); away = a.away })
-asked_event sc n o v w lows k a (GotAll ms f dual all e) told = rw e (asked_none _ (asked_all v.me a.away all))
-asked_event sc n o v w lows k a (GotDone ms f finish e) told = rw e (asked_none _ (a.none (ap may_pull finish)))
-asked_event sc n o v w lows k a (Finishes dual none e) told = rw e (asked_none _ (a.none (ap may_pull dual)))
-asked_event sc n o v w lows k a (Pushes p finish own e) told = rw e (asked_none _ (a.none (ap may_pull finish)))
+asked_event sc n o v w lows k a (Starts line e) told = rw e (asked_none _ (a.none (ap may_pull line.normal)))
+asked_event sc n o v w lows k a (GotWire line e) told = rw e (asked_none _ (a.none (ap may_pull line.empty)))
+asked_event sc n o v w lows k a (GotReady line e) told = rw e (asked_none _ (a.none (ap may_pull line.mode)))
+asked_event sc n o v w lows k a (GotDual line e) told = rw e (asked_none _ (a.none (ap may_pull line.mode)))
+asked_event sc n o v w lows k a (IsStale line e) told = rw e (asked_same v.me _ refl refl refl (λ p. refl) a)
+asked_event sc n o v w lows k a (Gives line e) told = rw e (asked_none _ (a.none (sends_none v.me.mode line.sends)))
+asked_event sc n o v w lows k a (GotPage line e) told =
+    rw e (record { none = λ off. absurd (false≢true (sym off ∙ line.pulls)); away = arrived_away line.leaf v.me a })
+asked_event sc n o v w lows k a (GotLast line e) told = rw e (asked_none _ (asked_all (with_arrived line.leaf v.me) (arrived_away line.leaf v.me a) line.all))
+asked_event sc n o v w lows k a (GotFinish line e) told = rw e (record { none = λ off. absurd (false≢true (sym off)); away = a.away })
+asked_event sc n o v w lows k a (GotAll line e) told = rw e (asked_none _ (asked_all v.me a.away line.all))
+asked_event sc n o v w lows k a (GotDone line e) told = rw e (asked_none _ (a.none (ap may_pull line.mode)))
+asked_event sc n o v w lows k a (Finishes line e) told = rw e (asked_none _ (a.none (ap may_pull line.dual)))
+asked_event sc n o v w lows k a (Pushes line e) told = rw e (asked_none _ (a.none (ap may_pull line.finish)))
 asked_event sc n o v w lows k a e told = let q = in_place_of e refl in
     asked_same v.me w.me q.mode q.lows q.asked (λ p. ap (λ xs. owns xs p) q.pages) a
 
@@ -183,11 +182,10 @@ elsewhere A B h = refl
 elsewhere B A h = refl
 elsewhere B B h = absurd (h refl)
 
--- a phase of Normal and Empty has empty links and no wireframe at the destination
-rested : (src dst : NodeState) (out back : List Message) → Phase src dst out back → src.mode ≡ Normal → dst.mode ≡ Empty → (dst.lows ≡ []) × (out ≡ [])
-    × (back ≡ [])
-rested src dst out back (Resting a b c d f) m e = (c, d, f)
-rested src dst out back ph m e = cc (source_is ph)
+-- beside a source in Normal the migration rests
+rested : {src dst : NodeState} {out back : List Message} → Phase src dst out back → src.mode ≡ Normal → At Resting src dst out back
+rested (Is Resting at) m = at
+rested (Is g at) m = cc (at.source, m)
 
 -- it holds of the node seen from
 asked_me : (n : Node) (s : State) → Both s → Asked (facing n s).me
@@ -206,13 +204,13 @@ nothing_left sc ok cs n empty normal =
     let v = facing n s in
     let r = reached sc ok cs in
     let k = kept_from sc n s r.lows r.kept in
-    let ph = rested v.them v.me v.inbox v.outbox (taker_of v k.inv.roles (ap is_taker empty)) normal empty in
+    let at = rested (taker_of v k.inv.roles (ap is_taker empty)) normal in
     let all = play_both sc ok cs in
-    let nobody : (t : ℕ) → IsAt v t n → ⊥ = λ t at. nobody_runs sc n v.me v r.lows t k.mine (ap is_idle empty) at in
+    let nobody : (t : ℕ) → IsAt v t n → ⊥ = λ t here. nobody_runs sc n v.me v r.lows t k.mine (ap is_idle empty) here in
     record {
-      links = (ph.1, ph.2);
+      links = (at.out, at.back);
       asked = ((asked_me n s all).none (ap may_pull empty), (asked_them n s all).none (ap may_pull normal));
-      bare = (k.inv.mine.none (ap is_bare empty), ph.0);
+      bare = (k.inv.mine.none (ap is_bare empty), at.lows);
       free = no_lock v.me.locks (λ p t h. nobody t (k.mine.runs p t h));
       idle = λ t active. elsewhere (txn_at v t).node n (λ here. nobody t (active, here));
     }

@@ -154,17 +154,19 @@ module _ (p : ℕ) (n : Node) (o : Outcome) (v : View) where
 -- each event moves a page as Goes says
 pub goes_event : (sc : Scenario) (n : Node) (o : Outcome) (v w : View) (p : ℕ) → Inv v → (e : Event sc n v w) → Told e o → Goes p n o v w
 unfolding did locked shares txn_at aborted begun committed asks
-goes_event sc n o v w p i (Splits t key value runs f new full normal pages e) told =
-    let x = has_lock t key Exclusive v in
+goes_event sc n o v w p i (Splits line e) told =
+    let x = has_lock line.txn line.key Exclusive v in
     let locked = locks_inv v x (refl, refl, refl) refl refl refl i in
-    rw e (from_same p n o v x _ refl refl (cut_goes p n o x t (page key v) (boundary sc key (page key v) v.me (txn_at v t)) locked normal told))
-goes_event sc n o v w p i (Commits t runs all e) told = rw e (stays p n o v _ (owns-installed v.me.lows (txn_at v t).rows v.me.pages p) refl refl refl)
-goes_event sc n o v w p i (Gives q ms f sends own free e) told =
-    let x = rest v ms in
-    let same = same_place p n x v refl refl refl (ap (λ xs. owns (sent_leaves xs) p) f) in
-    rw e (from_same p n o v x _ same refl (leaves_goes p n o x q (pulled_inv v i q ms f).owned (sends_source v.me.mode sends) own))
-goes_event sc n o v w p i (GotPage leaf ms f pulls e) told = rw e (arrives_goes p n o v leaf ms i.owned pulls f refl refl)
-goes_event sc n o v w p i (GotLast leaf ms f finish all e) told =
-    rw e (arrives_goes p n o v leaf ms i.owned (ap may_pull finish) f refl (sent_bare v.outbox Done refl))
-goes_event sc n o v w p i (Pushes q finish own e) told = rw e (leaves_goes p n o v q i.owned (ap is_source finish) own)
+    let low = boundary sc line.key (page line.key v) v.me (txn_at v line.txn) in
+    rw e (from_same p n o v x _ refl refl (cut_goes p n o x line.txn (page line.key v) low locked line.normal told))
+goes_event sc n o v w p i (Commits line e) told = rw e (stays p n o v _ (owns-installed v.me.lows (txn_at v line.txn).rows v.me.pages p) refl refl refl)
+goes_event sc n o v w p i (Gives line e) told =
+    let x = rest v line.after in
+    let same = same_place p n x v refl refl refl (ap (λ xs. owns (sent_leaves xs) p) line.front) in
+    let pulled = pulled_inv v i line.page line.after line.front in
+    rw e (from_same p n o v x _ same refl (leaves_goes p n o x line.page pulled.owned (sends_source v.me.mode line.sends) line.own))
+goes_event sc n o v w p i (GotPage line e) told = rw e (arrives_goes p n o v line.leaf line.after i.owned line.pulls line.front refl refl)
+goes_event sc n o v w p i (GotLast line e) told =
+    rw e (arrives_goes p n o v line.leaf line.after i.owned (ap may_pull line.mode) line.front refl (sent_bare v.outbox Done refl))
+goes_event sc n o v w p i (Pushes line e) told = rw e (leaves_goes p n o v line.page i.owned (ap is_source line.finish) line.own)
 goes_event sc n o v w p i e told = let q = unmoved_of e refl in stays p n o v w (ap (λ xs. owns xs p) q.pages) q.them q.outbox q.inbox

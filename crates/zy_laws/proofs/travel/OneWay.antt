@@ -35,22 +35,22 @@ in_mode sc n o v w them mode = record { them = them; off = λ h. inl (ap is_sour
 -- each event leaves the other node alone, and makes a source by a start only
 pub sourced : (sc : Scenario) (n : Node) (o : Outcome) (v w : View) → (e : Event sc n v w) → Told e o → Sourced sc n o v w
 unfolding did locked shares txn_at aborted begun committed cut asks leaves
-sourced sc n o v w (Splits t key value runs f new full normal pages e) told = rw e (in_mode sc n o v _ refl refl)
-sourced sc n o v w (Commits t runs all e) told = rw e (in_mode sc n o v _ refl refl)
-sourced sc n o v w (Asks p gone pulls new e) told = rw e (in_mode sc n o v _ refl refl)
-sourced sc n o v w (Starts at_a normal empty e) told = rw e (record { them = refl; off = λ _. inr (told, at_a) })
-sourced sc n o v w (GotWire lows ms f empty e) told = rw e (record { them = refl; off = λ _. inl refl })
-sourced sc n o v w (GotReady ms f init e) told = rw e (record { them = refl; off = λ h. absurd (false≢true (sym h ∙ ap is_source init)) })
-sourced sc n o v w (GotDual ms f init e) told = rw e (record { them = refl; off = λ _. inl refl })
-sourced sc n o v w (IsStale p ms f e) told = rw e (in_mode sc n o v _ refl refl)
-sourced sc n o v w (Gives p ms f sends own free e) told = rw e (in_mode sc n o v _ refl refl)
-sourced sc n o v w (GotPage leaf ms f pulls e) told = rw e (in_mode sc n o v _ refl refl)
-sourced sc n o v w (GotLast leaf ms f finish all e) told = rw e (record { them = refl; off = λ _. inl refl })
-sourced sc n o v w (GotFinish ms f dual e) told = rw e (record { them = refl; off = λ _. inl refl })
-sourced sc n o v w (GotAll ms f dual all e) told = rw e (record { them = refl; off = λ _. inl refl })
-sourced sc n o v w (GotDone ms f finish e) told = rw e (record { them = refl; off = λ _. inl refl })
-sourced sc n o v w (Finishes dual none e) told = rw e (record { them = refl; off = λ h. absurd (false≢true (sym h ∙ ap is_source dual)) })
-sourced sc n o v w (Pushes p finish own e) told = rw e (in_mode sc n o v _ refl refl)
+sourced sc n o v w (Splits line e) told = rw e (in_mode sc n o v _ refl refl)
+sourced sc n o v w (Commits line e) told = rw e (in_mode sc n o v _ refl refl)
+sourced sc n o v w (Asks line e) told = rw e (in_mode sc n o v _ refl refl)
+sourced sc n o v w (Starts line e) told = rw e (record { them = refl; off = λ _. inr (told, line.at_a) })
+sourced sc n o v w (GotWire line e) told = rw e (record { them = refl; off = λ _. inl refl })
+sourced sc n o v w (GotReady line e) told = rw e (record { them = refl; off = λ h. absurd (false≢true (sym h ∙ ap is_source line.mode)) })
+sourced sc n o v w (GotDual line e) told = rw e (record { them = refl; off = λ _. inl refl })
+sourced sc n o v w (IsStale line e) told = rw e (in_mode sc n o v _ refl refl)
+sourced sc n o v w (Gives line e) told = rw e (in_mode sc n o v _ refl refl)
+sourced sc n o v w (GotPage line e) told = rw e (in_mode sc n o v _ refl refl)
+sourced sc n o v w (GotLast line e) told = rw e (record { them = refl; off = λ _. inl refl })
+sourced sc n o v w (GotFinish line e) told = rw e (record { them = refl; off = λ _. inl refl })
+sourced sc n o v w (GotAll line e) told = rw e (record { them = refl; off = λ _. inl refl })
+sourced sc n o v w (GotDone line e) told = rw e (record { them = refl; off = λ _. inl refl })
+sourced sc n o v w (Finishes line e) told = rw e (record { them = refl; off = λ h. absurd (false≢true (sym h ∙ ap is_source line.dual)) })
+sourced sc n o v w (Pushes line e) told = rw e (in_mode sc n o v _ refl refl)
 sourced sc n o v w e told = let q = in_place_of e refl in in_mode sc n o v w q.them q.mode
 
 -- node m is no source after a step that is no start at it

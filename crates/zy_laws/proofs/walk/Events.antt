@@ -19,6 +19,7 @@ use Rattle.zy_model.specs.Locks.{conflict, is_locked}
 use Rattle.zy_model.specs.declared.mode.NodeMode.{NodeMode}
 use Rattle.zy_model.specs.declared.mode.NodeMode.TheVariants.{Empty, Normal, SInit, SDual, SFinish, DInit, DDual, DFinish}
 use Rattle.zy_model.specs.declared.kind.Kind.TheVariants as kind
+use Rattle.zy_model.specs.declared.table.MessageLine.{MessageLine}
 use Rattle.zy_model.specs.declared.table.MessageLine.TheVariants.{Stray, Turns}
 use Rattle.zy_model.specs.Table.{may_start, on_finish, home_of, may_split, may_pull, may_push, is_waiting}
 use Rattle.zy_model.specs.Messages.{Wire, Ready, Dual, Pull, Page, Finish, Done}
@@ -49,6 +50,7 @@ use Rattle.zy_laws.specs.Journey.{is_gone, is_stray}
 use Rattle.zy_table.specs.Play.{move, side_of}
 use Rattle.zy_laws.proofs.walk.ModeLines.{wire_line, ready_line, dual_line, pull_line, page_line, finish_line, done_line}
 use Rattle.zy_laws.proofs.walk.ModeLines.{starts_at_a, starts_from, pushes_in_finish}
+use Rattle.zy_laws.proofs.walk.Txns.{IsAt}
 use Rattle.zy_table.proofs.PageLists.{least-owns}
 use Rattle.zy_table.proofs.RangeLists.{found_has, key_of_page, none_passes}
 use Rattle.zy_table.proofs.AbortedLocks.{aborted-locked}
@@ -62,6 +64,10 @@ pub record Runs (sc : Scenario) (n : Node) (t : ℕ) (e : Effect) (v : View) : T
   pub begun : is_waiting v.me.mode ≡ false
   pub next : slice_get (program_of sc t) (txn_at v t).pc ≡ Some instr
   pub does : effect_of instr (txn_at v t).regs ≡ e
+
+-- then t is at n
+abbrev pub is_at : {sc : Scenario} {n : Node} {t : ℕ} {e : Effect} {v : View} → Runs sc n t e v → IsAt v t n
+is_at runs = (runs.active, runs.here)
 
 -- where an effect that needs no page leaves a transaction: its program counter and its registers
 pub data Leads (e : Effect) (x : Txn) (pc : ℕ) (regs : List ℕ) : Type 0 where
@@ -114,49 +120,199 @@ rest v ms = record v { inbox = ms }
 abbrev pub arrived : Leaf → View → View
 arrived leaf v = with_me (with_arrived leaf v.me) v
 
+-- t begins at the node that is home
+pub record Beginning (n : Node) (v : View) : Type 0 where
+  pub txn : ℕ
+  pub home : Node
+  pub at_a : n ≡ A
+  pub new : is_new (txn_at v txn).status ≡ true
+  pub home_is : home_of v.me.mode v.them.mode ≡ Some home
+
+-- t, which runs at n, aborts
+pub record Aborting (n : Node) (v : View) : Type 0 where
+  pub txn : ℕ
+  pub cause : Why
+  pub active : is_active (txn_at v txn).status ≡ true
+  pub here : (txn_at v txn).node ≡ n
+
+-- t's next instruction needs no page
+pub record Going (sc : Scenario) (n : Node) (v : View) : Type 0 where
+  pub txn : ℕ
+  pub act : Effect
+  pub pc : ℕ
+  pub regs : List ℕ
+  pub runs : Runs sc n txn act v
+  pub leads : Leads act (txn_at v txn) pc regs
+
+-- t reads a key
+pub record Getting (sc : Scenario) (n : Node) (v : View) : Type 0 where
+  pub txn : ℕ
+  pub register : Reg
+  pub key : ℕ
+  pub runs : Runs sc n txn (effect.Accesses (Reads register) key) v
+  pub free : Free txn key Shared v
+
+-- t adds up the keys from the first to the last
+pub record Summing (sc : Scenario) (n : Node) (v : View) : Type 0 where
+  pub txn : ℕ
+  pub register : Reg
+  pub first : ℕ
+  pub last : ℕ
+  pub runs : Runs sc n txn (effect.Sums register first last) v
+  pub free : FreeRange txn first last v
+
+-- t writes a key that is there
+pub record Writing (sc : Scenario) (n : Node) (v : View) : Type 0 where
+  pub txn : ℕ
+  pub key : ℕ
+  pub value : ℕ
+  pub runs : Runs sc n txn (effect.Accesses (access.Writes value) key) v
+  pub free : Free txn key Exclusive v
+  pub there : is_there key (page key v) v.me (txn_at v txn) ≡ true
+
+-- t inserts a key that is not there
+pub record Inserting (sc : Scenario) (n : Node) (v : View) : Type 0 where
+  pub txn : ℕ
+  pub key : ℕ
+  pub value : ℕ
+  pub runs : Runs sc n txn (effect.Accesses (access.Inserts value) key) v
+  pub free : Free txn key Exclusive v
+  pub absent : is_there key (page key v) v.me (txn_at v txn) ≡ false
+
+-- and its page has room
+pub record Placing (sc : Scenario) (n : Node) (v : View) : Type 0 where
+  pub insert : Inserting sc n v
+  pub open insert use *
+  pub room : has_room sc (page key v) v.me (txn_at v txn) ≡ true
+
+-- or is full, and may be cut
+pub record Splitting (sc : Scenario) (n : Node) (v : View) : Type 0 where
+  pub insert : Inserting sc n v
+  pub open insert use *
+  pub full : has_room sc (page key v) v.me (txn_at v txn) ≡ false
+  pub normal : may_split v.me.mode ≡ true
+  pub pages : nat_le sc.pages (length v.me.lows) ≡ false
+
+-- t commits
+pub record Committing (sc : Scenario) (n : Node) (v : View) : Type 0 where
+  pub txn : ℕ
+  pub runs : Runs sc n txn effect.Commits v
+  pub none_gone : least (gone_pages v.me (txn_at v txn).rows) ≡ None
+
+-- a page is asked for
+pub record Asking (v : View) : Type 0 where
+  pub page : ℕ
+  pub gone : owns v.me.pages page ≡ false
+  pub pulls : may_pull v.me.mode ≡ true
+  pub unasked : has v.me.asked page ≡ false
+
+-- a migration starts
+pub record Starting (sc : Scenario) (n : Node) (v : View) : Type 0 where
+  pub at_a : sc.version ≡ One → n ≡ A
+  pub normal : v.me.mode ≡ Normal
+  pub empty : v.them.mode ≡ Empty
+
+-- the front of the inbox, and what is behind it
+pub record Front (message : Message) (v : View) : Type 0 where
+  pub after : List Message
+  pub front : v.inbox ≡ message ∷ after
+
+-- a message is taken in this mode
+pub record Taking (message : Message) (in_mode : NodeMode) (v : View) : Type 0 where
+  pub taken : Front message v
+  pub open taken use *
+  pub mode : v.me.mode ≡ in_mode
+
+-- a wireframe is taken
+pub record Wired (v : View) : Type 0 where
+  pub lows : List ℕ
+  pub taken : Front (Wire lows) v
+  pub open taken use *
+  pub empty : v.me.mode ≡ Empty
+
+-- a pull of a page is taken
+pub record Pulled (v : View) : Type 0 where
+  pub page : ℕ
+  pub taken : Front (Pull page) v
+  pub open taken use *
+
+-- and the page is here, and free to go
+pub record Giving (sc : Scenario) (v : View) : Type 0 where
+  pub pull : Pulled v
+  pub open pull use *
+  pub sends : is_sending v.me.mode ≡ true
+  pub own : owns v.me.pages pull.page ≡ true
+  pub free : (is_held sc.rule && is_locked v.me.locks pull.page) ≡ false
+
+-- a page is taken
+pub record Paged (v : View) : Type 0 where
+  pub leaf : Leaf
+  pub taken : Front (Page leaf) v
+  pub open taken use *
+  pub pulls : may_pull v.me.mode ≡ true
+
+-- the last page is taken
+pub record Completed (v : View) : Type 0 where
+  pub leaf : Leaf
+  pub taken : Front (Page leaf) v
+  pub open taken use *
+  pub mode : v.me.mode ≡ DFinish
+  pub all : all_here (with_arrived leaf v.me) ≡ true
+
+-- a finish is taken, with all pages here
+pub record Finished (v : View) : Type 0 where
+  pub take : Taking Finish DDual v
+  pub open take use *
+  pub all : all_here v.me ≡ true
+
+-- nobody runs at n, whose dual mode ends
+pub record Finishing (n : Node) (v : View) : Type 0 where
+  pub dual : v.me.mode ≡ SDual
+  pub idle : active_from n 0 v.txns ≡ None
+
+-- a page is sent unasked
+pub record Pushing (v : View) : Type 0 where
+  pub page : ℕ
+  pub finish : v.me.mode ≡ SFinish
+  pub own : owns v.me.pages page ≡ true
+
 -- what a step of n's side did: w is v after one line of the table, whose conditions held
 pub data Event (sc : Scenario) (n : Node) (v w : View) : Type 0 where
   Rests : w ≡ v → Event sc n v w
-  Begins : (t : ℕ) (h : Node) → n ≡ A → is_new (txn_at v t).status ≡ true → home_of v.me.mode v.them.mode ≡ Some h → w ≡ begun h t v → Event sc n v w
-  Aborts : (t : ℕ) (y : Why) → is_active (txn_at v t).status ≡ true → (txn_at v t).node ≡ n → w ≡ aborted t y v → Event sc n v w
-  GoesOn : (t : ℕ) (x : Effect) (pc : ℕ) (regs : List ℕ) → Runs sc n t x v → Leads x (txn_at v t) pc regs
-      → w ≡ did t pc regs (txn_at v t).rows v → Event sc n v w
-  Gets : (t : ℕ) (r : Reg) (k : ℕ) → Runs sc n t (effect.Accesses (Reads r) k) v → Free t k Shared v
-      → w ≡ did t ((txn_at v t).pc + 1) (with_reg r (value_at t k v) (txn_at v t).regs) (txn_at v t).rows (has_lock t k Shared v)
+  Begins : (line : Beginning n v) → w ≡ begun line.home line.txn v → Event sc n v w
+  Aborts : (line : Aborting n v) → w ≡ aborted line.txn line.cause v → Event sc n v w
+  GoesOn : (line : Going sc n v) → w ≡ did line.txn line.pc line.regs (txn_at v line.txn).rows v → Event sc n v w
+  Gets : (line : Getting sc n v)
+      → w ≡ did line.txn ((txn_at v line.txn).pc + 1) (with_reg line.register (value_at line.txn line.key v) (txn_at v line.txn).regs)
+      (txn_at v line.txn).rows (has_lock line.txn line.key Shared v) → Event sc n v w
+  SumsUp : (line : Summing sc n v)
+      → w ≡ did line.txn ((txn_at v line.txn).pc + 1)
+      (with_reg line.register (sum_at line.txn line.first line.last v % 2 ^ 32) (txn_at v line.txn).regs)
+      (txn_at v line.txn).rows (has_locks line.txn line.first line.last v) → Event sc n v w
+  Writes : (line : Writing sc n v) → w ≡ puts line.txn line.key line.value v → Event sc n v w
+  Inserts : (line : Placing sc n v) → w ≡ puts line.txn line.key line.value v → Event sc n v w
+  Splits : (line : Splitting sc n v)
+      → w ≡ cut line.txn (page line.key v) (boundary sc line.key (page line.key v) v.me (txn_at v line.txn)) (has_lock line.txn line.key Exclusive v)
       → Event sc n v w
-  SumsUp : (t : ℕ) (r : Reg) (a b : ℕ) → Runs sc n t (effect.Sums r a b) v → FreeRange t a b v
-      → w ≡ did t ((txn_at v t).pc + 1) (with_reg r (sum_at t a b v % 2 ^ 32) (txn_at v t).regs) (txn_at v t).rows (has_locks t a b v)
-      → Event sc n v w
-  Writes : (t k x : ℕ) → Runs sc n t (effect.Accesses (access.Writes x) k) v → Free t k Exclusive v → is_there k (page k v) v.me (txn_at v t) ≡ true
-      → w ≡ puts t k x v → Event sc n v w
-  Inserts : (t k x : ℕ) → Runs sc n t (effect.Accesses (access.Inserts x) k) v → Free t k Exclusive v → is_there k (page k v) v.me (txn_at v t) ≡ false
-      → has_room sc (page k v) v.me (txn_at v t) ≡ true → w ≡ puts t k x v → Event sc n v w
-  Splits : (t k x : ℕ) → Runs sc n t (effect.Accesses (access.Inserts x) k) v → Free t k Exclusive v → is_there k (page k v) v.me (txn_at v t) ≡ false
-      → has_room sc (page k v) v.me (txn_at v t) ≡ false → may_split v.me.mode ≡ true → (nat_le sc.pages (length v.me.lows)) ≡ false
-      → w ≡ cut t (page k v) (boundary sc k (page k v) v.me (txn_at v t)) (has_lock t k Exclusive v) → Event sc n v w
-  Commits : (t : ℕ) → Runs sc n t effect.Commits v → least (gone_pages v.me (txn_at v t).rows) ≡ None → w ≡ committed t v → Event sc n v w
-  Asks : (p : ℕ) → owns v.me.pages p ≡ false → may_pull v.me.mode ≡ true → has v.me.asked p ≡ false → w ≡ asks p v → Event sc n v w
-  Starts : (sc.version ≡ One → n ≡ A) → v.me.mode ≡ Normal → v.them.mode ≡ Empty → w ≡ post (Wire v.me.lows) (turns SInit v) → Event sc n v w
-  GotWire : (lows : List ℕ) (ms : List Message) → v.inbox ≡ Wire lows ∷ ms → v.me.mode ≡ Empty
-      → w ≡ post Ready (turns DInit (with_me (with_lows lows v.me) (rest v ms))) → Event sc n v w
-  GotReady : (ms : List Message) → v.inbox ≡ Ready ∷ ms → v.me.mode ≡ SInit → w ≡ post Dual (turns SDual (rest v ms)) → Event sc n v w
-  GotDual : (ms : List Message) → v.inbox ≡ Dual ∷ ms → v.me.mode ≡ DInit → w ≡ turns DDual (rest v ms) → Event sc n v w
-  IsStale : (p : ℕ) (ms : List Message) → v.inbox ≡ Pull p ∷ ms → w ≡ rest v ms → Event sc n v w
-  Gives : (p : ℕ) (ms : List Message) → v.inbox ≡ Pull p ∷ ms → is_sending v.me.mode ≡ true → owns v.me.pages p ≡ true
-      → (is_held sc.rule && is_locked v.me.locks p) ≡ false → w ≡ leaves p (rest v ms) → Event sc n v w
-  GotPage : (leaf : Leaf) (ms : List Message) → v.inbox ≡ Page leaf ∷ ms → may_pull v.me.mode ≡ true → w ≡ arrived leaf (rest v ms) → Event sc n v w
-  GotLast : (leaf : Leaf) (ms : List Message) → v.inbox ≡ Page leaf ∷ ms → v.me.mode ≡ DFinish → all_here (with_arrived leaf v.me) ≡ true
-      → w ≡ post Done (turns Normal (arrived leaf (rest v ms))) → Event sc n v w
-  GotFinish : (ms : List Message) → v.inbox ≡ Finish ∷ ms → v.me.mode ≡ DDual → w ≡ turns DFinish (rest v ms) → Event sc n v w
-  GotAll : (ms : List Message) → v.inbox ≡ Finish ∷ ms → v.me.mode ≡ DDual → all_here v.me ≡ true
-      → w ≡ post Done (turns Normal (rest v ms)) → Event sc n v w
-  GotDone : (ms : List Message) → v.inbox ≡ Done ∷ ms → v.me.mode ≡ SFinish → w ≡ turns Empty (with_me (with_lows [] v.me) (rest v ms)) → Event sc n v w
-  Finishes : v.me.mode ≡ SDual → active_from n 0 v.txns ≡ None → w ≡ post Finish (turns SFinish v) → Event sc n v w
-  Pushes : (p : ℕ) → v.me.mode ≡ SFinish → owns v.me.pages p ≡ true → w ≡ leaves p v → Event sc n v w
+  Commits : (line : Committing sc n v) → w ≡ committed line.txn v → Event sc n v w
+  Asks : (line : Asking v) → w ≡ asks line.page v → Event sc n v w
+  Starts : (line : Starting sc n v) → w ≡ post (Wire v.me.lows) (turns SInit v) → Event sc n v w
+  GotWire : (line : Wired v) → w ≡ post Ready (turns DInit (with_me (with_lows line.lows v.me) (rest v line.after))) → Event sc n v w
+  GotReady : (line : Taking Ready SInit v) → w ≡ post Dual (turns SDual (rest v line.after)) → Event sc n v w
+  GotDual : (line : Taking Dual DInit v) → w ≡ turns DDual (rest v line.after) → Event sc n v w
+  IsStale : (line : Pulled v) → w ≡ rest v line.after → Event sc n v w
+  Gives : (line : Giving sc v) → w ≡ leaves line.page (rest v line.after) → Event sc n v w
+  GotPage : (line : Paged v) → w ≡ arrived line.leaf (rest v line.after) → Event sc n v w
+  GotLast : (line : Completed v) → w ≡ post Done (turns Normal (arrived line.leaf (rest v line.after))) → Event sc n v w
+  GotFinish : (line : Taking Finish DDual v) → w ≡ turns DFinish (rest v line.after) → Event sc n v w
+  GotAll : (line : Finished v) → w ≡ post Done (turns Normal (rest v line.after)) → Event sc n v w
+  GotDone : (line : Taking Done SFinish v) → w ≡ turns Empty (with_me (with_lows [] v.me) (rest v line.after)) → Event sc n v w
+  Finishes : (line : Finishing n v) → w ≡ post Finish (turns SFinish v) → Event sc n v w
+  Pushes : (line : Pushing v) → w ≡ leaves line.page v → Event sc n v w
 
 -- the newest low keys after a step: a split alone adds one
 abbrev pub lows_after : (sc : Scenario) (n : Node) (v w : View) (lows : List ℕ) → Event sc n v w → List ℕ
-lows_after sc n v w lows (Splits t k x runs f new full normal pages e) = lows ++ boundary sc k (page k v) v.me (txn_at v t) ∷ []
+lows_after sc n v w lows (Splits line e) = lows ++ boundary sc line.key (page line.key v) v.me (txn_at v line.txn) ∷ []
 lows_after sc n v w lows e = lows
 
 -- t aborts since a key's page is gone: the page is not here, and cannot be asked for, or the key is a private row's
@@ -172,15 +328,15 @@ pub record Lost (n : Node) (v : View) : Type 0 where
 -- the front of the inbox is a message that the mode does not know
 pub record Strange (v : View) : Type 0 where
   pub message : Message
-  pub after : List Message
-  pub front : v.inbox ≡ message ∷ after
+  pub taken : Front message v
+  pub open taken use *
   pub line : mode_line message v ≡ Stray
 
 -- a split's outcome has the number of the new page, a start's that it acted; and a page that is asked for is that of a key
 abbrev pub Told : {sc : Scenario} {n : Node} {v w : View} → Event sc n v w → Outcome → Type 0
-Told {v = v} (Splits t k x runs f new full normal pages e) o = (p b : ℕ) × (o ≡ outcome.Split p (length v.me.lows) b)
-Told (Starts at_a normal empty e) o = o ≡ outcome.Started
-Told {v = v} (Asks p gone pulls asked e) o = (k : ℕ) × (p ≡ page_of v.me.lows k)
+Told {v = v} (Splits line e) o = (p b : ℕ) × (o ≡ outcome.Split p (length v.me.lows) b)
+Told (Starts line e) o = o ≡ outcome.Started
+Told {v = v} (Asks line e) o = (k : ℕ) × (line.page ≡ page_of v.me.lows k)
 Told e o = Unit {0}
 
 -- a move is an event, its outcome says what the event did, and it is gone or stray only for the cause shown
@@ -228,30 +384,29 @@ module _ (sc : Scenario) (n : Node) where
   aborts : (t : ℕ) (y : Why) (v : View) → is_active (txn_at v t).status ≡ true → (txn_at v t).node ≡ n
       → (is_gone (outcome.Aborted y) ≡ true → Lost n v) → Happens sc n v (abort_step t y v)
   unfolding abort_step
-  aborts t y v a h lost = record { event = Aborts t y a h refl; told = tt; lost = lost; strange = λ e. never e }
+  aborts t y v a h lost = record { event = Aborts (record { txn = t; cause = y; active = a; here = h }) refl; told = tt; lost = lost; strange = λ e. never e }
 
   -- the same with the page's lock taken
   aborts_locked : (t p : ℕ) (kind : LockKind) (y : Why) (v : View) → is_active (txn_at v t).status ≡ true
       → (txn_at v t).node ≡ n → is_gone (outcome.Aborted y) ≡ false → Happens sc n v (abort_step t y (locked t p kind v))
   unfolding abort_step
-  aborts_locked t p kind y v a h g = plain v _ (Aborts t y a h (aborted-locked t p kind y v)) g refl tt
+  aborts_locked t p kind y v a h g = plain v _ (Aborts (record { txn = t; cause = y; active = a; here = h }) (aborted-locked t p kind y v)) g refl tt
 
   -- an effect that needs no page
   goes_on : (t : ℕ) (e : Effect) (pc : ℕ) (regs : List ℕ) (v : View) → Runs sc n t e v → Leads e (txn_at v t) pc regs
       → Happens sc n v (quiet (did t pc regs (txn_at v t).rows v) outcome.Did)
-  goes_on t e pc regs v runs leads = plain v _ (GoesOn t e pc regs runs leads refl) refl refl tt
+  goes_on t e pc regs v runs leads = plain v _ (GoesOn (record { txn = t; act = e; pc = pc; regs = regs; runs = runs; leads = leads }) refl) refl refl tt
 
   -- the line of an insert on a full page: it splits where the mode allows, and else aborts
-  full_happens : (t k x : ℕ) (v : View) → Runs sc n t (effect.Accesses (access.Inserts x) k) v → Free t k Exclusive v
-      → is_there k (page k v) v.me (txn_at v t) ≡ false → has_room sc (page k v) v.me (txn_at v t) ≡ false
-      → Happens sc n v (full_step sc t k (page k v) (has_lock t k Exclusive v))
+  full_happens : (v : View) (i : Inserting sc n v) → has_room sc (page i.key v) v.me (txn_at v i.txn) ≡ false
+      → Happens sc n v (full_step sc i.txn i.key (page i.key v) (has_lock i.txn i.key Exclusive v))
   unfolding full_step split_step locked txn_at
-  full_happens t k x v runs f new full =
+  full_happens v i full =
       cond_both (not (may_split v.me.mode)) _ _ (Happens sc n v)
-      (λ _. aborts_locked t (page k v) Exclusive _ v runs.active runs.here refl)
+      (λ _. aborts_locked i.txn (page i.key v) Exclusive _ v i.runs.active i.runs.here refl)
       (λ normal. cond_both (nat_le sc.pages (length v.me.lows)) _ _ (Happens sc n v)
-      (λ _. aborts_locked t (page k v) Exclusive _ v runs.active runs.here refl)
-      (λ more. plain v _ (Splits t k x runs f new full (not-false _ normal) more refl) refl refl (_, _, refl)))
+      (λ _. aborts_locked i.txn (page i.key v) Exclusive _ v i.runs.active i.runs.here refl)
+      (λ more. plain v _ (Splits (record { insert = i; full = full; normal = not-false _ normal; pages = more }) refl) refl refl (_, _, refl)))
 
   -- the line of an insert under its lock: the row is there, the page is full, or it has room
   insert_happens : (t k x : ℕ) (v : View) → Runs sc n t (effect.Accesses (access.Inserts x) k) v → Free t k Exclusive v
@@ -260,9 +415,10 @@ module _ (sc : Scenario) (n : Node) where
   insert_happens t k x v runs f =
       cond_both (is_there k (page k v) v.me (txn_at v t)) _ _ (Happens sc n v)
       (λ _. aborts_locked t (page k v) Exclusive _ v runs.active runs.here refl)
-      (λ new. cond_both (has_room sc (page k v) v.me (txn_at v t)) _ _ (Happens sc n v)
-      (λ room. plain v _ (Inserts t k x runs f new room refl) refl refl tt)
-      (λ full. full_happens t k x v runs f new full))
+      (λ new. let i : Inserting sc n v = record { txn = t; key = k; value = x; runs = runs; free = f; absent = new } in
+      cond_both (has_room sc (page k v) v.me (txn_at v t)) _ _ (Happens sc n v)
+      (λ room. plain v _ (Inserts (record { insert = i; room = room }) refl) refl refl tt)
+      (λ full. full_happens v i full))
 
   -- the line of a write under its lock
   write_happens : (t k x : ℕ) (v : View) → Runs sc n t (effect.Accesses (access.Writes x) k) v → Free t k Exclusive v
@@ -270,14 +426,14 @@ module _ (sc : Scenario) (n : Node) where
   unfolding write_step locked txn_at
   write_happens t k x v runs f =
       cond_both (is_there k (page k v) v.me (txn_at v t)) _ _ (Happens sc n v)
-      (λ there. plain v _ (Writes t k x runs f there refl) refl refl tt)
+      (λ there. plain v _ (Writes (record { txn = t; key = k; value = x; runs = runs; free = f; there = there }) refl) refl refl tt)
       (λ _. aborts_locked t (page k v) Exclusive _ v runs.active runs.here refl)
 
   -- the line of a read under its lock
   read_happens : (t : ℕ) (r : Reg) (k : ℕ) (v : View) → Runs sc n t (effect.Accesses (Reads r) k) v → Free t k Shared v
       → Happens sc n v (read_step t r k (page k v) (has_lock t k Shared v))
   unfolding read_step locked txn_at
-  read_happens t r k v runs f = plain v _ (Gets t r k runs f refl) refl refl tt
+  read_happens t r k v runs f = plain v _ (Gets (record { txn = t; register = r; key = k; runs = runs; free = f }) refl) refl refl tt
 
   -- an access that has its lock
   access_happens : (t k : ℕ) (i : Access) (v : View) → Runs sc n t (effect.Accesses i k) v → Free t k (lock_of i) v
@@ -304,7 +460,7 @@ module _ (sc : Scenario) (n : Node) where
       }))
       (λ s. cond_both (has v.me.asked (page_of v.me.lows k)) _ _ (Happens sc n v)
       (λ _. rests v _ refl refl)
-      (λ h. plain v _ (Asks (page_of v.me.lows k) gone (not-false _ s) h refl) refl refl (k, refl)))
+      (λ h. plain v _ (Asks (record { page = page_of v.me.lows k; gone = gone; pulls = not-false _ s; unasked = h }) refl) refl refl (k, refl)))
 
   -- an access by its key and its page
   key_happens : (t k : ℕ) (i : Access) (v : View) → Runs sc n t (effect.Accesses i k) v → Happens sc n v (key_step sc t i k v)
@@ -341,7 +497,7 @@ module _ (sc : Scenario) (n : Node) where
         here = here;
         free = λ p h. none_passes taken (range_pages v.me.lows a b) p (sym e) h;
       } in
-      plain v _ (SumsUp t r a b runs free refl) refl refl tt
+      plain v _ (SumsUp (record { txn = t; register = r; first = a; last = b; runs = runs; free = free }) refl) refl refl tt
 
   -- the line of a sum with keys: it asks for a page that is not here, or goes on to the locks
   sum_asks_happens : (t : ℕ) (r : Reg) (a b : ℕ) (o : Option ℕ) (v : View) → o ≡ first_absent v.me.pages (range_pages v.me.lows a b)
@@ -371,7 +527,7 @@ module _ (sc : Scenario) (n : Node) where
       aborts t (why.Gone p) v r.active r.here (λ _.
       let l = gone_key v.me (txn_at v t).rows (txn_at v t).rows (λ k h. h) p (sym e) in
       record { txn = t; key = l.0; active = r.active; here = r.here; begun = r.begun; gone = l.2; cause = inr l.1 })
-  commit_happens t None v e r = plain v _ (Commits t r (sym e) refl) refl refl tt
+  commit_happens t None v e r = plain v _ (Commits (record { txn = t; runs = r; none_gone = sym e }) refl) refl refl tt
 
   -- the lines of each effect
   effect_happens : (t : ℕ) (e : Effect) (v : View) → Runs sc n t e v → Happens sc n v (effect_step sc t e v)
@@ -410,7 +566,8 @@ module _ (sc : Scenario) (n : Node) where
   unfolding start_step
   start_happens v at_a =
       cond_both (may_start v.me.mode v.them.mode) _ _ (Happens sc n v)
-      (λ h. let modes = starts_from v.me.mode v.them.mode h in plain v _ (Starts at_a modes.0 modes.1 refl) refl refl refl)
+      (λ h. let modes = starts_from v.me.mode v.them.mode h in
+      plain v _ (Starts (record { at_a = at_a; normal = modes.0; empty = modes.1 }) refl) refl refl refl)
       (λ _. rests v _ refl refl)
 
   -- the lines of a kill
@@ -418,121 +575,122 @@ module _ (sc : Scenario) (n : Node) where
   unfolding kill_step
   kill_happens t v h =
       cond_both (is_active (txn_at v t).status) _ _ (Happens sc n v)
-      (λ a. plain v _ (Aborts t why.Killed a h refl) refl refl tt)
+      (λ a. plain v _ (Aborts (record { txn = t; cause = why.Killed; active = a; here = h }) refl) refl refl tt)
       (λ _. rests v _ refl refl)
 
   -- the lines of take, where the mode table has one
-  strays : (m : Message) (ms : List Message) (v : View) → v.inbox ≡ m ∷ ms → mode_line m v ≡ Stray
-      → Happens sc n v (arrival_step (mode_line m v) m v (rest v ms))
+  strays : (m : Message) (v : View) (taken : Front m v) → mode_line m v ≡ Stray → Happens sc n v (arrival_step (mode_line m v) m v (rest v taken.after))
   unfolding arrival_step
-  strays m ms v f e =
-      subst (λ line. Happens sc n v (arrival_step line m v (rest v ms))) (sym e)
-      (record { event = Rests refl; told = tt; lost = λ h. never h; strange = λ _. record { message = m; after = ms; front = f; line = e } })
+  strays m v taken e =
+      subst (λ y. Happens sc n v (arrival_step y m v (rest v taken.after))) (sym e)
+      (record { event = Rests refl; told = tt; lost = λ h. never h; strange = λ _. record { message = m; taken = taken; line = e } })
+
+  -- a message is taken as its line says
+  by_line : (m : Message) (v : View) (taken : Front m v) (y : MessageLine) → mode_line m v ≡ y
+      → Happens sc n v (arrival_step y m v (rest v taken.after)) → Happens sc n v (arrival_step (mode_line m v) m v (rest v taken.after))
+  by_line m v taken y e h = subst (λ z. Happens sc n v (arrival_step z m v (rest v taken.after))) (sym e) h
 
   -- taking a wireframe
-  wire_happens : (lows : List ℕ) (ms : List Message) (v : View) → v.inbox ≡ Wire lows ∷ ms
-      → Happens sc n v (arrival_step (mode_line (Wire lows) v) (Wire lows) v (rest v ms))
+  wire_happens : (lows : List ℕ) (v : View) (taken : Front (Wire lows) v)
+      → Happens sc n v (arrival_step (mode_line (Wire lows) v) (Wire lows) v (rest v taken.after))
   unfolding arrival_step
-  wire_happens lows ms v f =
+  wire_happens lows v taken =
       elim (wire_line v.me.mode (all_here (with_brought (Wire lows) v.me))) [
-        | inl e ↦ strays (Wire lows) ms v f e
-        | inr h ↦ subst (λ line. Happens sc n v (arrival_step line (Wire lows) v (rest v ms))) (sym h.1) (plain v _ (GotWire lows ms f h.0 refl) refl refl tt)
+        | inl e ↦ strays (Wire lows) v taken e
+        | inr h ↦ by_line (Wire lows) v taken _ h.1 (plain v _ (GotWire (record { lows = lows; taken = taken; empty = h.0 }) refl) refl refl tt)
       ]
 
   -- taking a ready
-  ready_happens : (ms : List Message) (v : View) → v.inbox ≡ Ready ∷ ms
-      → Happens sc n v (arrival_step (mode_line Ready v) Ready v (rest v ms))
+  ready_happens : (v : View) (taken : Front Ready v) → Happens sc n v (arrival_step (mode_line Ready v) Ready v (rest v taken.after))
   unfolding arrival_step
-  ready_happens ms v f =
+  ready_happens v taken =
       elim (ready_line v.me.mode (all_here (with_brought Ready v.me))) [
-        | inl e ↦ strays Ready ms v f e
-        | inr h ↦ subst (λ line. Happens sc n v (arrival_step line Ready v (rest v ms))) (sym h.1) (plain v _ (GotReady ms f h.0 refl) refl refl tt)
+        | inl e ↦ strays Ready v taken e
+        | inr h ↦ by_line Ready v taken _ h.1 (plain v _ (GotReady (record { taken = taken; mode = h.0 }) refl) refl refl tt)
       ]
 
   -- taking a dual
-  dual_happens : (ms : List Message) (v : View) → v.inbox ≡ Dual ∷ ms → Happens sc n v (arrival_step (mode_line Dual v) Dual v (rest v ms))
+  dual_happens : (v : View) (taken : Front Dual v) → Happens sc n v (arrival_step (mode_line Dual v) Dual v (rest v taken.after))
   unfolding arrival_step
-  dual_happens ms v f =
+  dual_happens v taken =
       elim (dual_line v.me.mode (all_here (with_brought Dual v.me))) [
-        | inl e ↦ strays Dual ms v f e
-        | inr h ↦ subst (λ line. Happens sc n v (arrival_step line Dual v (rest v ms))) (sym h.1) (plain v _ (GotDual ms f h.0 refl) refl refl tt)
+        | inl e ↦ strays Dual v taken e
+        | inr h ↦ by_line Dual v taken _ h.1 (plain v _ (GotDual (record { taken = taken; mode = h.0 }) refl) refl refl tt)
       ]
 
   -- taking a page, the last one or one of more
-  page_happens : (leaf : Leaf) (ms : List Message) (v : View) → v.inbox ≡ Page leaf ∷ ms
-      → Happens sc n v (arrival_step (mode_line (Page leaf) v) (Page leaf) v (rest v ms))
+  page_happens : (leaf : Leaf) (v : View) (taken : Front (Page leaf) v)
+      → Happens sc n v (arrival_step (mode_line (Page leaf) v) (Page leaf) v (rest v taken.after))
   unfolding arrival_step
-  page_happens leaf ms v f =
+  page_happens leaf v taken =
       elim (page_line v.me.mode (all_here (with_brought (Page leaf) v.me))) [
-        | inl e ↦ strays (Page leaf) ms v f e
+        | inl e ↦ strays (Page leaf) v taken e
         | inr h ↦ elim h [
-          | inl more ↦ subst (λ line. Happens sc n v (arrival_step line (Page leaf) v (rest v ms))) (sym more.1)
-              (plain v _ (GotPage leaf ms f more.0 refl) refl refl tt)
-          | inr last ↦ subst (λ line. Happens sc n v (arrival_step line (Page leaf) v (rest v ms))) (sym last.2)
-              (plain v _ (GotLast leaf ms f last.0 last.1 refl) refl refl tt)
+          | inl more ↦ by_line (Page leaf) v taken _ more.1 (plain v _ (GotPage (record { leaf = leaf; taken = taken; pulls = more.0 }) refl) refl refl tt)
+          | inr last ↦ by_line (Page leaf) v taken _ last.2
+              (plain v _ (GotLast (record { leaf = leaf; taken = taken; mode = last.0; all = last.1 }) refl) refl refl tt)
         ]
       ]
 
   -- taking a finish, with all pages here or not
-  finish_taken : (ms : List Message) (v : View) → v.inbox ≡ Finish ∷ ms
-      → Happens sc n v (arrival_step (mode_line Finish v) Finish v (rest v ms))
+  finish_taken : (v : View) (taken : Front Finish v) → Happens sc n v (arrival_step (mode_line Finish v) Finish v (rest v taken.after))
   unfolding arrival_step
-  finish_taken ms v f =
+  finish_taken v taken =
       elim (finish_line v.me.mode (all_here (with_brought Finish v.me))) [
-        | inl e ↦ strays Finish ms v f e
-        | inr h ↦ elim h.1 [
-          | inl some ↦ subst (λ line. Happens sc n v (arrival_step line Finish v (rest v ms))) (sym some.1) (plain v _ (GotFinish ms f h.0 refl) refl refl tt)
-          | inr all ↦ subst (λ line. Happens sc n v (arrival_step line Finish v (rest v ms))) (sym all.1) (plain v _ (GotAll ms f h.0 all.0 refl) refl refl tt)
+        | inl e ↦ strays Finish v taken e
+        | inr h ↦ let take : Taking Finish DDual v = record { taken = taken; mode = h.0 } in elim h.1 [
+          | inl some ↦ by_line Finish v taken _ some.1 (plain v _ (GotFinish take refl) refl refl tt)
+          | inr all ↦ by_line Finish v taken _ all.1 (plain v _ (GotAll (record { take = take; all = all.0 }) refl) refl refl tt)
         ]
       ]
 
   -- taking a done
-  done_happens : (ms : List Message) (v : View) → v.inbox ≡ Done ∷ ms → Happens sc n v (arrival_step (mode_line Done v) Done v (rest v ms))
+  done_happens : (v : View) (taken : Front Done v) → Happens sc n v (arrival_step (mode_line Done v) Done v (rest v taken.after))
   unfolding arrival_step
-  done_happens ms v f =
+  done_happens v taken =
       elim (done_line v.me.mode (all_here (with_brought Done v.me))) [
-        | inl e ↦ strays Done ms v f e
-        | inr h ↦ subst (λ line. Happens sc n v (arrival_step line Done v (rest v ms))) (sym h.1) (plain v _ (GotDone ms f h.0 refl) refl refl tt)
+        | inl e ↦ strays Done v taken e
+        | inr h ↦ by_line Done v taken _ h.1 (plain v _ (GotDone (record { taken = taken; mode = h.0 }) refl) refl refl tt)
       ]
 
   -- taking a pull in a mode that sends: it is stale, it waits for the lock, or the page leaves
-  pull_turns : (p : ℕ) (ms : List Message) (v : View) (to : NodeMode) → v.inbox ≡ Pull p ∷ ms → is_sending v.me.mode ≡ true
-      → Happens sc n v (pull_step sc p (Turns to (Some kind.Page)) v (rest v ms))
+  pull_turns : (v : View) (pull : Pulled v) (to : NodeMode) → is_sending v.me.mode ≡ true
+      → Happens sc n v (pull_step sc pull.page (Turns to (Some kind.Page)) v (rest v pull.after))
   unfolding pull_step
-  pull_turns p ms v to f sends =
-      cond_both (not (owns v.me.pages p)) _ _ (Happens sc n v)
-      (λ _. plain v _ (IsStale p ms f refl) refl refl tt)
-      (λ own. cond_both (is_held sc.rule && is_locked v.me.locks p) _ _ (Happens sc n v)
+  pull_turns v pull to sends =
+      cond_both (not (owns v.me.pages pull.page)) _ _ (Happens sc n v)
+      (λ _. plain v _ (IsStale pull refl) refl refl tt)
+      (λ own. cond_both (is_held sc.rule && is_locked v.me.locks pull.page) _ _ (Happens sc n v)
       (λ _. rests v _ refl refl)
-      (λ free. plain v _ (Gives p ms f sends (not-false _ own) free refl) refl refl tt))
+      (λ free. plain v _ (Gives (record { pull = pull; sends = sends; own = not-false _ own; free = free }) refl) refl refl tt))
 
   -- taking a pull
-  pull_happens : (p : ℕ) (ms : List Message) (v : View) → v.inbox ≡ Pull p ∷ ms
-      → Happens sc n v (pull_step sc p (mode_line (Pull p) v) v (rest v ms))
+  pull_happens : (p : ℕ) (v : View) (taken : Front (Pull p) v) → Happens sc n v (pull_step sc p (mode_line (Pull p) v) v (rest v taken.after))
   unfolding pull_step
-  pull_happens p ms v f =
+  pull_happens p v taken =
       elim (pull_line v.me.mode (all_here (with_brought (Pull p) v.me))) [
-        | inl e ↦ subst (λ line. Happens sc n v (pull_step sc p line v (rest v ms))) (sym e)
-            (record { event = Rests refl; told = tt; lost = λ h. never h; strange = λ _. record { message = Pull p; after = ms; front = f; line = e } })
-        | inr h ↦ subst (λ line. Happens sc n v (pull_step sc p line v (rest v ms))) (sym h.1.1) (pull_turns p ms v h.1.0 f h.0)
+        | inl e ↦ subst (λ y. Happens sc n v (pull_step sc p y v (rest v taken.after))) (sym e)
+            (record { event = Rests refl; told = tt; lost = λ h. never h; strange = λ _. record { message = Pull p; taken = taken; line = e } })
+        | inr h ↦ subst (λ y. Happens sc n v (pull_step sc p y v (rest v taken.after))) (sym h.1.1)
+            (pull_turns v (record { page = p; taken = taken }) h.1.0 h.0)
       ]
 
   -- taking a message of each kind
-  message_happens : (m : Message) (ms : List Message) (v : View) → v.inbox ≡ m ∷ ms → Happens sc n v (message_step sc m v (rest v ms))
+  message_happens : (m : Message) (v : View) (taken : Front m v) → Happens sc n v (message_step sc m v (rest v taken.after))
   unfolding message_step
-  message_happens (Wire lows) ms v f = wire_happens lows ms v f
-  message_happens Ready ms v f = ready_happens ms v f
-  message_happens Dual ms v f = dual_happens ms v f
-  message_happens (Pull p) ms v f = pull_happens p ms v f
-  message_happens (Page leaf) ms v f = page_happens leaf ms v f
-  message_happens Finish ms v f = finish_taken ms v f
-  message_happens Done ms v f = done_happens ms v f
+  message_happens (Wire lows) v taken = wire_happens lows v taken
+  message_happens Ready v taken = ready_happens v taken
+  message_happens Dual v taken = dual_happens v taken
+  message_happens (Pull p) v taken = pull_happens p v taken
+  message_happens (Page leaf) v taken = page_happens leaf v taken
+  message_happens Finish v taken = finish_taken v taken
+  message_happens Done v taken = done_happens v taken
 
   -- taking the front of the link, if there is one
   front_happens : (ms : List Message) (v : View) → v.inbox ≡ ms → Happens sc n v (front_step sc ms v)
   unfolding front_step
   front_happens [] v f = rests v _ refl refl
-  front_happens (m ∷ ms) v f = message_happens m ms v f
+  front_happens (m ∷ ms) v f = message_happens m v (record { after = ms; front = f })
 
   -- the lines of a take
   take_happens : (v : View) → Happens sc n v (take_step sc v)
@@ -543,7 +701,7 @@ module _ (sc : Scenario) (n : Node) where
   finish_by : (mode : NodeMode) (o : Option ℕ) (t : ℕ) (v : View) → v.me.mode ≡ mode → active_from n 0 v.txns ≡ o
       → Happens sc n v (finish_if (on_finish mode (is_some o)) t v)
   unfolding finish_if
-  finish_by SDual None t v m e = plain v _ (Finishes m e refl) refl refl tt
+  finish_by SDual None t v m e = plain v _ (Finishes (record { dual = m; idle = e }) refl) refl refl tt
   finish_by mode o t v m e = rests v _ refl refl
 
   -- the lines of a finish
@@ -555,7 +713,7 @@ module _ (sc : Scenario) (n : Node) where
   push_by : (o : Option ℕ) (v : View) → o ≡ least (numbers v.me.pages) → v.me.mode ≡ SFinish → Happens sc n v (push_if o v)
   unfolding push_if
   push_by None v e m = rests v _ refl refl
-  push_by (Some p) v e m = plain v _ (Pushes p m (least-owns v.me.pages p (sym e)) refl) refl refl tt
+  push_by (Some p) v e m = plain v _ (Pushes (record { page = p; finish = m; own = least-owns v.me.pages p (sym e) }) refl) refl refl tt
 
   -- the lines of a push
   push_happens : (v : View) → Happens sc n v (push_step v)
@@ -570,7 +728,7 @@ begin_at_happens : (sc : Scenario) (t : ℕ) (o : Option Node) (v : View) → o 
     → Happens sc A v (begin_at o t v)
 unfolding begin_at
 begin_at_happens sc t None v e s = rests sc A v _ refl refl
-begin_at_happens sc t (Some h) v e s = plain sc A v _ (Begins t h refl s (sym e) refl) refl refl tt
+begin_at_happens sc t (Some h) v e s = plain sc A v _ (Begins (record { txn = t; home = h; at_a = refl; new = s; home_is = sym e }) refl) refl refl tt
 
 -- the lines of a begin
 begin_happens : (sc : Scenario) (t : ℕ) (v : View) → Happens sc A v (begin_step t v)

@@ -14,15 +14,15 @@ use Rattle.zy_laws.proofs.walk.Events.{GotDual, IsStale, Gives, GotPage, GotLast
 
 -- the event is of a transaction: it begins, it aborts, or its program goes on
 abbrev pub of_txn : {sc : Scenario} {n : Node} {v w : View} → Event sc n v w → Bool
-of_txn (Begins t h a new home e) = true
-of_txn (Aborts t y active here e) = true
-of_txn (GoesOn t x pc regs runs leads e) = true
-of_txn (Gets t r k runs f e) = true
-of_txn (SumsUp t r a b runs f e) = true
-of_txn (Writes t k x runs f there e) = true
-of_txn (Inserts t k x runs f new room e) = true
-of_txn (Splits t k x runs f new full normal pages e) = true
-of_txn (Commits t runs all e) = true
+of_txn (Begins line e) = true
+of_txn (Aborts line e) = true
+of_txn (GoesOn line e) = true
+of_txn (Gets line e) = true
+of_txn (SumsUp line e) = true
+of_txn (Writes line e) = true
+of_txn (Inserts line e) = true
+of_txn (Splits line e) = true
+of_txn (Commits line e) = true
 of_txn e = false
 
 -- no transaction and no lock changes, and nothing at the other node
@@ -36,32 +36,32 @@ pub record Quiet (v w : View) : Type 0 where
 pub quiet_of : {sc : Scenario} {n : Node} {v w : View} (e : Event sc n v w) → of_txn e ≡ false → Quiet v w
 unfolding asks leaves
 quiet_of (Rests e) h = rw e (record { txns = refl; commits = refl; locks = refl; them = refl })
-quiet_of (Asks p gone pulls asked e) h = rw e (record { txns = refl; commits = refl; locks = refl; them = refl })
-quiet_of (Starts at_a normal empty e) h = rw e (record { txns = refl; commits = refl; locks = refl; them = refl })
-quiet_of (GotWire lows ms f empty e) h = rw e (record { txns = refl; commits = refl; locks = refl; them = refl })
-quiet_of (GotReady ms f init e) h = rw e (record { txns = refl; commits = refl; locks = refl; them = refl })
-quiet_of (GotDual ms f init e) h = rw e (record { txns = refl; commits = refl; locks = refl; them = refl })
-quiet_of (IsStale p ms f e) h = rw e (record { txns = refl; commits = refl; locks = refl; them = refl })
-quiet_of (Gives p ms f sends own free e) h = rw e (record { txns = refl; commits = refl; locks = refl; them = refl })
-quiet_of (GotPage leaf ms f pulls e) h = rw e (record { txns = refl; commits = refl; locks = refl; them = refl })
-quiet_of (GotLast leaf ms f finish all e) h = rw e (record { txns = refl; commits = refl; locks = refl; them = refl })
-quiet_of (GotFinish ms f dual e) h = rw e (record { txns = refl; commits = refl; locks = refl; them = refl })
-quiet_of (GotAll ms f dual all e) h = rw e (record { txns = refl; commits = refl; locks = refl; them = refl })
-quiet_of (GotDone ms f finish e) h = rw e (record { txns = refl; commits = refl; locks = refl; them = refl })
-quiet_of (Finishes dual none e) h = rw e (record { txns = refl; commits = refl; locks = refl; them = refl })
-quiet_of (Pushes p finish own e) h = rw e (record { txns = refl; commits = refl; locks = refl; them = refl })
+quiet_of (Asks line e) h = rw e (record { txns = refl; commits = refl; locks = refl; them = refl })
+quiet_of (Starts line e) h = rw e (record { txns = refl; commits = refl; locks = refl; them = refl })
+quiet_of (GotWire line e) h = rw e (record { txns = refl; commits = refl; locks = refl; them = refl })
+quiet_of (GotReady line e) h = rw e (record { txns = refl; commits = refl; locks = refl; them = refl })
+quiet_of (GotDual line e) h = rw e (record { txns = refl; commits = refl; locks = refl; them = refl })
+quiet_of (IsStale line e) h = rw e (record { txns = refl; commits = refl; locks = refl; them = refl })
+quiet_of (Gives line e) h = rw e (record { txns = refl; commits = refl; locks = refl; them = refl })
+quiet_of (GotPage line e) h = rw e (record { txns = refl; commits = refl; locks = refl; them = refl })
+quiet_of (GotLast line e) h = rw e (record { txns = refl; commits = refl; locks = refl; them = refl })
+quiet_of (GotFinish line e) h = rw e (record { txns = refl; commits = refl; locks = refl; them = refl })
+quiet_of (GotAll line e) h = rw e (record { txns = refl; commits = refl; locks = refl; them = refl })
+quiet_of (GotDone line e) h = rw e (record { txns = refl; commits = refl; locks = refl; them = refl })
+quiet_of (Finishes line e) h = rw e (record { txns = refl; commits = refl; locks = refl; them = refl })
+quiet_of (Pushes line e) h = rw e (record { txns = refl; commits = refl; locks = refl; them = refl })
 quiet_of e h = absurd (false≢true (sym h))
 
 -- the event leaves the node's mode, wireframe, pages and questions
 abbrev pub in_place : {sc : Scenario} {n : Node} {v w : View} → Event sc n v w → Bool
 in_place (Rests e) = true
-in_place (Begins t h a new home e) = true
-in_place (Aborts t y active here e) = true
-in_place (GoesOn t x pc regs runs leads e) = true
-in_place (Gets t r k runs f e) = true
-in_place (SumsUp t r a b runs f e) = true
-in_place (Writes t k x runs f there e) = true
-in_place (Inserts t k x runs f new room e) = true
+in_place (Begins line e) = true
+in_place (Aborts line e) = true
+in_place (GoesOn line e) = true
+in_place (Gets line e) = true
+in_place (SumsUp line e) = true
+in_place (Writes line e) = true
+in_place (Inserts line e) = true
 in_place e = false
 
 -- of a node no more changes than its locks, and of the links and the other node nothing
@@ -78,25 +78,23 @@ pub record InPlace (v w : View) : Type 0 where
 pub in_place_of : {sc : Scenario} {n : Node} {v w : View} (e : Event sc n v w) → in_place e ≡ true → InPlace v w
 unfolding did locked shares aborted begun
 in_place_of (Rests e) h = rw e (record { mode = refl; lows = refl; pages = refl; asked = refl; them = refl; inbox = refl; outbox = refl })
-in_place_of (Begins t h' a new home e) h = rw e (record { mode = refl; lows = refl; pages = refl; asked = refl; them = refl; inbox = refl; outbox = refl })
-in_place_of (Aborts t y active here e) h = rw e (record { mode = refl; lows = refl; pages = refl; asked = refl; them = refl; inbox = refl; outbox = refl })
-in_place_of (GoesOn t x pc regs runs leads e) h =
-    rw e (record { mode = refl; lows = refl; pages = refl; asked = refl; them = refl; inbox = refl; outbox = refl })
-in_place_of (Gets t r k runs f e) h = rw e (record { mode = refl; lows = refl; pages = refl; asked = refl; them = refl; inbox = refl; outbox = refl })
-in_place_of (SumsUp t r a b runs f e) h = rw e (record { mode = refl; lows = refl; pages = refl; asked = refl; them = refl; inbox = refl; outbox = refl })
-in_place_of (Writes t k x runs f there e) h = rw e (record { mode = refl; lows = refl; pages = refl; asked = refl; them = refl; inbox = refl; outbox = refl })
-in_place_of (Inserts t k x runs f new room e) h =
-    rw e (record { mode = refl; lows = refl; pages = refl; asked = refl; them = refl; inbox = refl; outbox = refl })
+in_place_of (Begins line e) h = rw e (record { mode = refl; lows = refl; pages = refl; asked = refl; them = refl; inbox = refl; outbox = refl })
+in_place_of (Aborts line e) h = rw e (record { mode = refl; lows = refl; pages = refl; asked = refl; them = refl; inbox = refl; outbox = refl })
+in_place_of (GoesOn line e) h = rw e (record { mode = refl; lows = refl; pages = refl; asked = refl; them = refl; inbox = refl; outbox = refl })
+in_place_of (Gets line e) h = rw e (record { mode = refl; lows = refl; pages = refl; asked = refl; them = refl; inbox = refl; outbox = refl })
+in_place_of (SumsUp line e) h = rw e (record { mode = refl; lows = refl; pages = refl; asked = refl; them = refl; inbox = refl; outbox = refl })
+in_place_of (Writes line e) h = rw e (record { mode = refl; lows = refl; pages = refl; asked = refl; them = refl; inbox = refl; outbox = refl })
+in_place_of (Inserts line e) h = rw e (record { mode = refl; lows = refl; pages = refl; asked = refl; them = refl; inbox = refl; outbox = refl })
 in_place_of e h = absurd (false≢true h)
 
 -- the event moves no page, and changes no row of one
 abbrev pub moves_none : {sc : Scenario} {n : Node} {v w : View} → Event sc n v w → Bool
-moves_none (Splits t k x runs f new full normal pages e) = false
-moves_none (Commits t runs all e) = false
-moves_none (Gives p ms f sends own free e) = false
-moves_none (GotPage leaf ms f pulls e) = false
-moves_none (GotLast leaf ms f finish all e) = false
-moves_none (Pushes p finish own e) = false
+moves_none (Splits line e) = false
+moves_none (Commits line e) = false
+moves_none (Gives line e) = false
+moves_none (GotPage line e) = false
+moves_none (GotLast line e) = false
+moves_none (Pushes line e) = false
 moves_none e = true
 
 -- each page is where it was, at the nodes and on the links
@@ -109,23 +107,24 @@ pub record Unmoved (v w : View) : Type 0 where
 -- an event that moves no page leaves each where it is
 pub unmoved_of : {sc : Scenario} {n : Node} {v w : View} (e : Event sc n v w) → moves_none e ≡ true → Unmoved v w
 unfolding asks
-unmoved_of (Splits t k x runs f new full normal pages e) h = absurd (false≢true h)
-unmoved_of (Commits t runs all e) h = absurd (false≢true h)
-unmoved_of (Gives p ms f sends own free e) h = absurd (false≢true h)
-unmoved_of (GotPage leaf ms f pulls e) h = absurd (false≢true h)
-unmoved_of (GotLast leaf ms f finish all e) h = absurd (false≢true h)
-unmoved_of (Pushes p finish own e) h = absurd (false≢true h)
-unmoved_of {v = v} (Asks p gone pulls asked e) h = rw e (record { pages = refl; them = refl; inbox = refl; outbox = sent_bare v.outbox (Pull p) refl })
-unmoved_of {v = v} (Starts at_a normal empty e) h = rw e (record { pages = refl; them = refl; inbox = refl; outbox = sent_bare v.outbox (Wire v.me.lows) refl })
-unmoved_of {v = v} (GotWire lows ms f empty e) h =
-    rw e (record { pages = refl; them = refl; inbox = ap sent_leaves (sym f); outbox = sent_bare v.outbox Ready refl })
-unmoved_of {v = v} (GotReady ms f init e) h = rw e (record { pages = refl; them = refl; inbox = ap sent_leaves (sym f); outbox = sent_bare v.outbox Dual refl })
-unmoved_of (GotDual ms f init e) h = rw e (record { pages = refl; them = refl; inbox = ap sent_leaves (sym f); outbox = refl })
-unmoved_of (IsStale p ms f e) h = rw e (record { pages = refl; them = refl; inbox = ap sent_leaves (sym f); outbox = refl })
-unmoved_of (GotFinish ms f dual e) h = rw e (record { pages = refl; them = refl; inbox = ap sent_leaves (sym f); outbox = refl })
-unmoved_of {v = v} (GotAll ms f dual all e) h =
-    rw e (record { pages = refl; them = refl; inbox = ap sent_leaves (sym f); outbox = sent_bare v.outbox Done refl })
-unmoved_of (GotDone ms f finish e) h = rw e (record { pages = refl; them = refl; inbox = ap sent_leaves (sym f); outbox = refl })
-unmoved_of {v = v} (Finishes dual none e) h = rw e (record { pages = refl; them = refl; inbox = refl; outbox = sent_bare v.outbox Finish refl })
+unmoved_of (Splits line e) h = absurd (false≢true h)
+unmoved_of (Commits line e) h = absurd (false≢true h)
+unmoved_of (Gives line e) h = absurd (false≢true h)
+unmoved_of (GotPage line e) h = absurd (false≢true h)
+unmoved_of (GotLast line e) h = absurd (false≢true h)
+unmoved_of (Pushes line e) h = absurd (false≢true h)
+unmoved_of {v = v} (Asks line e) h = rw e (record { pages = refl; them = refl; inbox = refl; outbox = sent_bare v.outbox (Pull line.page) refl })
+unmoved_of {v = v} (Starts line e) h = rw e (record { pages = refl; them = refl; inbox = refl; outbox = sent_bare v.outbox (Wire v.me.lows) refl })
+unmoved_of {v = v} (GotWire line e) h =
+    rw e (record { pages = refl; them = refl; inbox = ap sent_leaves (sym line.front); outbox = sent_bare v.outbox Ready refl })
+unmoved_of {v = v} (GotReady line e) h =
+    rw e (record { pages = refl; them = refl; inbox = ap sent_leaves (sym line.front); outbox = sent_bare v.outbox Dual refl })
+unmoved_of (GotDual line e) h = rw e (record { pages = refl; them = refl; inbox = ap sent_leaves (sym line.front); outbox = refl })
+unmoved_of (IsStale line e) h = rw e (record { pages = refl; them = refl; inbox = ap sent_leaves (sym line.front); outbox = refl })
+unmoved_of (GotFinish line e) h = rw e (record { pages = refl; them = refl; inbox = ap sent_leaves (sym line.front); outbox = refl })
+unmoved_of {v = v} (GotAll line e) h =
+    rw e (record { pages = refl; them = refl; inbox = ap sent_leaves (sym line.front); outbox = sent_bare v.outbox Done refl })
+unmoved_of (GotDone line e) h = rw e (record { pages = refl; them = refl; inbox = ap sent_leaves (sym line.front); outbox = refl })
+unmoved_of {v = v} (Finishes line e) h = rw e (record { pages = refl; them = refl; inbox = refl; outbox = sent_bare v.outbox Finish refl })
 unmoved_of e h = let q = in_place_of e refl in
     record { pages = q.pages; them = q.them; inbox = ap sent_leaves q.inbox; outbox = ap sent_leaves q.outbox }

@@ -1,5 +1,5 @@
 -- What a phase says of the two wireframes, and of one that is on its way.
-use Rattle.std.proofs.Common.{◌≡◌, ℕ, List, [], ◌∷◌, true, false, refl, sym, ap, ◌∙◌, subst, inl, inr, append-nil}
+use Rattle.std.proofs.Common.{◌≡◌, arith, ℕ, List, [], ◌∷◌, true, false, refl, sym, ap, ◌∙◌, subst, inl, inr, append-nil}
 use Rattle.std.specs.Prelude.{◌⊎◌}
 use Rattle.std.proofs.lemmas.Bool.{false≢true}
 use Rattle.zy_model.specs.Families.{is_source}
@@ -7,40 +7,15 @@ use Rattle.zy_isa.specs.Scenario.{Scenario}
 use Rattle.zy_isa.specs.declared.choice.Choice.{Choice}
 use Rattle.zy_isa.specs.declared.node.Node.{Node}
 use Rattle.zy_model.specs.declared.mode.NodeMode.TheVariants.{Normal}
-use Rattle.zy_model.specs.Messages.{Pull, Page, Finish, Done}
+use Rattle.zy_model.specs.Messages.{Wire, Dual, Pull, Page, Finish, Done}
 use Rattle.zy_laws.specs.Journey.{Begins, OneWireframe, Sent, Wireframes}
 use Rattle.zy_table.specs.Play.{opening, play}
 use Rattle.zy_table.specs.State.{Message, NodeState, View, facing}
 use Rattle.zy_laws.proofs.owner.OneOwner.{inv_from, play_inv}
-use Rattle.zy_laws.proofs.owner.Phases.{AllPages, AllPulls, PagesAndFinish, Phase, PullsAndDone, Resting, Wire_sent, Ready_sent, Dual_sent, Both_sent, In_dual}
-use Rattle.zy_laws.proofs.owner.Phases.{Finish_sent, In_finish, Done_sent}
+use Rattle.zy_laws.proofs.owner.Phases.{Back, Is, Lows, Out, Phase, Stage}
+use Rattle.zy_laws.proofs.owner.Phases.{destination_mode, source_mode}
+use Rattle.zy_laws.proofs.owner.Phases.{Resting, Wire_sent, Ready_sent, Dual_sent, Both_sent, In_dual, Finish_sent, In_finish, Done_sent}
 use Rattle.zy_laws.proofs.owner.Roles.{Destination, Roles, Source}
-
--- links without a wireframe
-pages_sent : (x : NodeState) (ms : List Message) → AllPages ms → Sent x ms
-pages_sent x [] h = tt
-pages_sent x (Page leaf ∷ ms) h = pages_sent x ms h
-pages_sent x ms h = absurd h
-
--- on a link of pages and a finish is no wireframe
-finish_sent : (x : NodeState) (ms : List Message) → PagesAndFinish ms → Sent x ms
-finish_sent x [] h = tt
-finish_sent x (Page leaf ∷ ms) h = finish_sent x ms h
-finish_sent x (Finish ∷ ms) h = pages_sent x ms h
-finish_sent x ms h = absurd h
-
--- on a link of pulls is no wireframe
-pulls_sent : (x : NodeState) (ms : List Message) → AllPulls ms → Sent x ms
-pulls_sent x [] h = tt
-pulls_sent x (Pull p ∷ ms) h = pulls_sent x ms h
-pulls_sent x ms h = absurd h
-
--- on a link of pulls and a done is no wireframe
-done_sent : (x : NodeState) (ms : List Message) → PullsAndDone ms → Sent x ms
-done_sent x [] h = tt
-done_sent x (Pull p ∷ ms) h = done_sent x ms h
-done_sent x (Done ∷ ms) h = subst (Sent x) (sym h) tt
-done_sent x ms h = absurd h
 
 -- the low keys of source and destination
 record Framed (src dst : NodeState) (out back : List Message) : Type 0 where
@@ -55,41 +30,63 @@ record Framed (src dst : NodeState) (out back : List Message) : Type 0 where
 pub no_more : (xs ys : List ℕ) → ys ≡ xs → Begins xs ys
 no_more xs ys e = record { more = []; is = e ∙ sym (append-nil xs) }
 
--- where the destination has no low keys, and where it has the source's
-none_framed : (src dst : NodeState) (out back : List Message) → is_source dst.mode ≡ false → dst.lows ≡ [] → Sent src out → back ≡ [] → Framed src dst out back
-none_framed src dst out back last none sent empty =
-    record { one = inl none; last = last; begins = inl none; same = inl none; sent = sent; back_sent = subst (Sent dst) (sym empty) tt }
+-- a destination with low keys has a source beside it
+one_at : (g : Stage) (lows : List ℕ) (dst : NodeState) → Lows g lows dst → (dst.lows ≡ []) ⊎ (is_source (source_mode g) ≡ true)
+one_at Resting lows dst h = inl h
+one_at g lows dst h = inr refl
 
--- a destination with the source's low keys is framed
-same_framed : (src dst : NodeState) (out back : List Message) → is_source src.mode ≡ true → is_source dst.mode ≡ false → dst.lows ≡ src.lows → Sent src out
-    → Sent dst back
-    → Framed src dst out back
-same_framed src dst out back first last same sent back_sent =
-    record { one = inr first; last = last; begins = inr (no_more _ _ same); same = inr (inr same); sent = sent; back_sent = back_sent }
+-- the destination is no source
+last_at : (g : Stage) → is_source (destination_mode g) ≡ false
+last_at Resting = refl
+last_at g = refl
+
+-- the source's low keys begin the destination's, if it has any
+begins_at : (g : Stage) (lows : List ℕ) (dst : NodeState) → Lows g lows dst → (dst.lows ≡ []) ⊎ Begins lows dst.lows
+begins_at Resting lows dst h = inl h
+begins_at Wire_sent lows dst h = inl h
+begins_at Done_sent lows dst h = inr h.begins
+begins_at g lows dst h = inr (no_more _ _ h)
+
+-- and are the same until that one is Normal
+same_at : (g : Stage) (lows : List ℕ) (dst : NodeState) → Lows g lows dst → (dst.lows ≡ []) ⊎ ((destination_mode g ≡ Normal) ⊎ (dst.lows ≡ lows))
+same_at Resting lows dst h = inl h
+same_at Wire_sent lows dst h = inl h
+same_at Done_sent lows dst h = inr (inl refl)
+same_at g lows dst h = inr (inr h)
+
+-- a wireframe on its way to the destination is the source's
+sent_at : (g : Stage) (src : NodeState) (ms : List Message) → src.mode ≡ source_mode g → Out g src.lows ms → Sent src ms
+sent_at g src [] mode h = tt
+sent_at Wire_sent src (Wire lows ∷ ms) mode h = subst (Sent src) (sym h) (ap is_source mode, refl, tt)
+sent_at Dual_sent src (Dual ∷ ms) mode h = sent_at In_dual src ms mode h
+sent_at Both_sent src (Dual ∷ ms) mode h = sent_at Finish_sent src ms mode h
+sent_at In_dual src (Page leaf ∷ ms) mode h = sent_at In_dual src ms mode h
+sent_at Finish_sent src (Page leaf ∷ ms) mode h = sent_at Finish_sent src ms mode h
+sent_at Finish_sent src (Finish ∷ ms) mode h = sent_at In_finish src ms mode h
+sent_at In_finish src (Page leaf ∷ ms) mode h = sent_at In_finish src ms mode h
+sent_at g src (m ∷ ms) mode h = grind (arith, h)
+
+-- none goes back
+back_at : (g : Stage) (dst : NodeState) (ms : List Message) → Back g ms → Sent dst ms
+back_at g dst [] h = tt
+back_at Ready_sent dst ms h = subst (Sent dst) (sym h) tt
+back_at In_dual dst (Pull p ∷ ms) h = back_at In_dual dst ms h
+back_at Finish_sent dst (Pull p ∷ ms) h = back_at Finish_sent dst ms h
+back_at In_finish dst (Pull p ∷ ms) h = back_at In_finish dst ms h
+back_at Done_sent dst (Pull p ∷ ms) h = back_at Done_sent dst ms h
+back_at Done_sent dst (Done ∷ ms) h = subst (Sent dst) (sym h) tt
+back_at g dst (m ∷ ms) h = grind (arith, h)
 
 -- each phase of a migration is framed
 framed : (src dst : NodeState) (out back : List Message) → Phase src dst out back → Framed src dst out back
-framed src dst out back (Resting a b c d f) = none_framed src dst out back (ap is_source b) c (subst (Sent src) (sym d) tt) f
-framed src dst out back (Wire_sent a b c d f) = none_framed src dst out back (ap is_source b) c (subst (Sent src) (sym d) (ap is_source a, refl, tt)) f
-framed src dst out back (Ready_sent a b c d f) = same_framed src dst out back (ap is_source a) (ap is_source b) c (subst (Sent src) (sym d) tt)
-    (subst (Sent dst) (sym f) tt)
-framed src dst out back (Dual_sent ms a b c d all f) =
-    same_framed src dst out back (ap is_source a) (ap is_source b) c (subst (Sent src) (sym d) (pages_sent src ms all)) (subst (Sent dst) (sym f) tt)
-framed src dst out back (Both_sent ms a b c d all f) =
-    same_framed src dst out back (ap is_source a) (ap is_source b) c (subst (Sent src) (sym d) (finish_sent src ms all)) (subst (Sent dst) (sym f) tt)
-framed src dst out back (In_dual a b c d f) = same_framed src dst out back (ap is_source a) (ap is_source b) c (pages_sent src out d) (pulls_sent dst back f)
-framed src dst out back (Finish_sent a b c d f) = same_framed src dst out back (ap is_source a) (ap is_source b) c (finish_sent src out d)
-    (pulls_sent dst back f)
-framed src dst out back (In_finish a b c d f) = same_framed src dst out back (ap is_source a) (ap is_source b) c (pages_sent src out d) (pulls_sent dst back f)
-framed src dst out back (Done_sent a b c all d f) =
-    record {
-      one = inr (ap is_source a);
-      last = ap is_source b;
-      begins = inr c;
-      same = inr (inl b);
-      sent = subst (Sent src) (sym d) tt;
-      back_sent = done_sent dst back f;
-    }
+framed src dst out back (Is g at) = record {
+  one = rw at.source (one_at g src.lows dst at.lows);
+  last = ap is_source at.destination ∙ last_at g;
+  begins = begins_at g src.lows dst at.lows;
+  same = rw at.destination (same_at g src.lows dst at.lows);
+  sent = sent_at g src out at.source at.out;
+  back_sent = back_at g dst back at.back;
+}
 
 -- what roles say of the two wireframes
 pub wireframes : (v : View) → Roles v → Wireframes v
