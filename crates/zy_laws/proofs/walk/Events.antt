@@ -65,7 +65,7 @@ pub record Runs (sc : Scenario) (n : Node) (t : ℕ) (e : Effect) (v : View) : T
   pub next : slice_get (program_of sc t) (txn_at v t).pc ≡ Some instr
   pub does : effect_of instr (txn_at v t).regs ≡ e
 
--- then t is at n
+-- t is at n where it runs
 abbrev pub is_at : {sc : Scenario} {n : Node} {t : ℕ} {e : Effect} {v : View} → Runs sc n t e v → IsAt v t n
 is_at runs = (runs.active, runs.here)
 
@@ -179,13 +179,13 @@ pub record Inserting (sc : Scenario) (n : Node) (v : View) : Type 0 where
   pub free : Free txn key Exclusive v
   pub absent : is_there key (page key v) v.me (txn_at v txn) ≡ false
 
--- and its page has room
+-- t inserts a key on a page that has room
 pub record Placing (sc : Scenario) (n : Node) (v : View) : Type 0 where
   pub insert : Inserting sc n v
   pub open insert use *
   pub room : has_room sc (page key v) v.me (txn_at v txn) ≡ true
 
--- or is full, and may be cut
+-- t cuts a full page for the key that it inserts
 pub record Splitting (sc : Scenario) (n : Node) (v : View) : Type 0 where
   pub insert : Inserting sc n v
   pub open insert use *
@@ -236,7 +236,7 @@ pub record Pulled (v : View) : Type 0 where
   pub taken : Front (Pull page) v
   pub open taken use *
 
--- and the page is here, and free to go
+-- a pull is taken of a page that is here and free to go
 pub record Giving (sc : Scenario) (v : View) : Type 0 where
   pub pull : Pulled v
   pub open pull use *
