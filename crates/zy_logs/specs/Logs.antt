@@ -13,6 +13,7 @@ use Rattle.zy_logs.specs.declared.faults.LogFault.TheVariants.{Refused, Memory}
 use Rattle.zy_logs.specs.declared.log_line.LogLine.{LogLine}
 use Rattle.zy_logs.specs.declared.log_line.Logged.{Logged}
 use Rattle.zy_logs.specs.declared.log_line.Logged.TheVariants.{Step, Gap}
+use Rattle.zy_logs.specs.declared.logs.LogReader.{LogReader}
 use Rattle.zy_logs.specs.declared.logs.NumberedLine.{NumberedLine}
 use Rattle.zy_logs.specs.declared.txns.Txns.{Txns}
 use Rattle.zy_logs.specs.Words.{Word}
@@ -78,12 +79,12 @@ steps (l ∷ lines) = step_of l.logged ++ steps lines
 abbrev pub choices_of : List NumberedLine → List Choice
 choices_of lines = map (λ (line : LogLine). line.choice) (steps lines)
 
--- one line more was taken, if it says one, and there is less room, unless there was no memory
-abbrev pub TakesLine : ℕ → ℕ → Result ℕ LogFault → (old new : List NumberedLine) → Result (Option NumberedLine) LogLineFault → Type 0
-TakesLine gap left (Ok less) old new line = (first : Option NumberedLine) × (line ≡ Ok first) × (new ≡ old ++ listed first)
-    × (less ≡ left - steps_in gap (listed first))
-TakesLine gap left (Err (Refused r)) old new line = line ≡ Err r
-TakesLine gap left (Err Memory) old new line = Unit {0}
+-- a reader after a line that says this: it was added, if it is there, and there is less room, unless there was no memory
+abbrev pub TakesLine : Result (Unit {0}) LogFault → (old new : LogReader) → Result (Option NumberedLine) LogLineFault → Type 0
+TakesLine (Ok u) old new line = (first : Option NumberedLine) × (line ≡ Ok first) × (new.lines.items ≡ old.lines.items ++ listed first)
+    × (new.left ≡ old.left - steps_in old.gap (listed first)) × (new.txns ≡ old.txns) × (new.gap ≡ old.gap)
+TakesLine (Err (Refused r)) old new line = line ≡ Err r
+TakesLine (Err Memory) old new line = Unit {0}
 
 -- the answer is what the text says, unless there was no memory
 abbrev pub Reads : Result (Vec NumberedLine Global) LogFault → Result (List NumberedLine) LogLineFault → Type 0

@@ -21,61 +21,62 @@ pub struct NumberedLine {
     pub logged: Logged,
 }
 
-/// What the words of line `number` say, if there are words. A gap counts for `gap` steps, and there is room for `left`.
-fn line_at(
-    txns: Txns<'_>,
+/// Reads lines of logs one by one.
+#[derive(Drop)]
+struct LogReader<'a> {
+    /// The transactions that the lines may name.
+    txns: Txns<'a>,
+    /// How many steps a gap counts for.
     gap: usize,
+    /// How many steps there is room for.
     left: usize,
-    number: usize,
-    words: &[&[u8]],
-) -> Result<Option<NumberedLine>, LogLineFault>
-    requires { txns.count ≤ max_txns }
-    ensures { result ≡ spec.line_at txns.entry gap left number (texts words.now) }
-{
-    if words.is_empty() {
-        return Ok(None);
-    }
-    match read_line(txns, words) {
-        Ok(logged) => {
-            if logged.steps(gap) <= left {
-                Ok(Some(NumberedLine { number, logged }))
-            } else {
-                Err(LogLineFault {
-                    line: number,
-                    word: 0,
-                    expected: ExpectedInLog::FewerLines,
-                })
-            }
-        }
-        Err(misread) => Err(LogLineFault {
-            line: number,
-            word: misread.word,
-            expected: misread.expected,
-        }),
-    }
+    /// What the lines that were read say.
+    lines: Vec<NumberedLine>,
 }
 
-/// Adds what line `number` of a text says, if it has words, and answers how many steps there is room for then. A gap counts
-/// for `gap`, and there is room for `left`.
-fn take(
-    alloc: Global,
-    txns: Txns<'_>,
-    gap: usize,
-    left: usize,
-    lines: &mut Vec<NumberedLine>,
-    number: usize,
-    line: &[u8],
-) -> Result<usize, LogFault>
-    requires { txns.count ≤ max_txns }
-    ensures { TakesLine gap left result lines.old.items lines.new.items (spec.line_at txns.entry gap left number
-        (text_words.words_of line.now)) }
-{
-    let words = words_of(alloc, line)?;
-    let Some(line) = line_at(txns, gap, left, number, &words)? else {
-        return Ok(left);
-    };
-    lines.push(line).map_err(|_| LogFault::Memory)?;
-    Ok(left.saturating_sub(line.logged.steps(gap)))
+impl LogReader<'_> {
+    /// What the words of line `number` say, if there are words.
+    fn line_at(&self, number: usize, words: &[&[u8]]) -> Result<Option<NumberedLine>, LogLineFault>
+        requires { self.now.txns.count ≤ max_txns }
+        ensures { result ≡ spec.line_at self.now.txns self.now.gap self.now.left number (texts words.now) }
+    {
+        if words.is_empty() {
+            return Ok(None);
+        }
+        match read_line(self.txns, words) {
+            Ok(logged) => {
+                if logged.steps(self.gap) <= self.left {
+                    Ok(Some(NumberedLine { number, logged }))
+                } else {
+                    Err(LogLineFault {
+                        line: number,
+                        word: 0,
+                        expected: ExpectedInLog::FewerLines,
+                    })
+                }
+            }
+            Err(misread) => Err(LogLineFault {
+                line: number,
+                word: misread.word,
+                expected: misread.expected,
+            }),
+        }
+    }
+
+    /// Reads line `number` of a text: adds what it says, if it has words, after which there is less room.
+    fn read(&mut self, alloc: Global, number: usize, line: &[u8]) -> Result<(), LogFault>
+        requires { self.old.txns.count ≤ max_txns }
+        ensures { TakesLine result self.old self.new (spec.line_at self.old.txns self.old.gap self.old.left number
+            (text_words.words_of line.now)) }
+    {
+        let words = words_of(alloc, line)?;
+        let Some(line) = self.line_at(number, &words)? else {
+            return Ok(());
+        };
+        self.lines.push(line).map_err(|_| LogFault::Memory)?;
+        self.left = self.left.saturating_sub(line.logged.steps(self.gap));
+        Ok(())
+    }
 }
 
 /// What the lines of logs of a text say, whose first line has number `first`, each with its number. A gap counts for `gap`
@@ -92,15 +93,19 @@ pub fn read_logs(
     requires numbers { first + length text.now < 2 ^ 64 }
     ensures { Reads result (spec.logs_of txns.entry gap most first text.now) }
 {
-    let mut lines = Vec::new(alloc);
+    let mut reader = LogReader {
+        txns,
+        gap,
+        left: most,
+        lines: Vec::new(alloc),
+    };
     let mut rest = text;
     let mut number = first;
-    let mut left = most;
     while !rest.is_empty() {
         let (line, below) = first_line(rest);
-        left = take(alloc, txns, gap, left, &mut lines, number, line)?;
+        reader.read(alloc, number, line)?;
         rest = below;
         number += 1;
     }
-    Ok(lines)
+    Ok(reader.lines)
 }

@@ -7,7 +7,9 @@ use Rattle.zy_logs.proofs.logs.read_logs.Given as goal
 abbrev pub invariant-loop-rest : goal.invariant-loop-rest
 invariant-loop-rest l = record {
   same : logs_of l.txns l.gap l.most l.first l.text
-      ≡ joined l.lines.items (lines_from l.txns l.gap l.left l.number (lines_of l.rest));
+      ≡ joined l.reader.lines.items (lines_from l.txns l.gap l.reader.left l.number (lines_of l.rest));
+  txns : l.reader.txns ≡ l.txns;
+  gap : l.reader.gap ≡ l.gap;
   within : l.number + length l.rest ≤ l.first + length l.text;
 }
 
