@@ -20,16 +20,35 @@ use zy_isa::{Actor, Scenario};
 use zy_laws::laws::{one_owner, real_time, serializable, source_first};
 use zy_machine::{Fault, Machine};
 
+/// Something for each actor: the client, node A and node B.
+#[derive(Drop)]
+struct PerActor<C, A, B> {
+    c: C,
+    a: A,
+    b: B,
+}
+
+impl<C: Drop, A: Drop, B: Drop> PerActor<Option<C>, Option<A>, Option<B>> {
+    /// What each actor has; nothing where one of them has nothing.
+    fn whole(self) -> Option<PerActor<C, A, B>> {
+        let PerActor { c, a, b } = self;
+        let c = c?;
+        let a = a?;
+        let b = b?;
+        Some(PerActor { c, a, b })
+    }
+}
+
 /// The desk of a board on which nobody has taken a turn.
 fn open_desk<S: Of, C: Side, A: Side, B: Side>(
     board: Board,
-    c: Book<C>,
-    a: Book<A>,
-    b: Book<B>,
+    books: PerActor<Book<C>, Book<A>, Book<B>>,
 ) -> Desk<S, C, A, B>
-    requires cursors { (c.total ≡ board.c.cursor) × (a.total ≡ board.a.cursor) × (b.total ≡ board.b.cursor) }
+    requires cursors { (books.c.total ≡ board.c.cursor) × (books.a.total ≡ board.a.cursor)
+        × (books.b.total ≡ board.b.cursor) }
     requires plan { board.machine.scenario ≡ S.plan }
 {
+    let PerActor { c, a, b } = books;
     Desk {
         board,
         c,
@@ -42,9 +61,7 @@ fn open_desk<S: Of, C: Side, A: Side, B: Side>(
 /// The machine of a board on which every choice was taken.
 fn close<S: Of, C: Side, A: Side, B: Side>(
     desk: Desk<S, C, A, B>,
-    c: Done<C>,
-    a: Done<A>,
-    b: Done<B>,
+    done: PerActor<Done<C>, Done<A>, Done<B>>,
 ) -> Result<Machine, Fault>
     requires c { IsLedgerOf client S.plan.choices C.parts C.turns }
     requires a { IsLedgerOf node_a S.plan.choices A.parts A.turns }
@@ -52,6 +69,7 @@ fn close<S: Of, C: Side, A: Side, B: Side>(
     ensures scenario { IfOk result (λ m. m.scenario ≡ S.plan) }
     ensures merge { IfOk result (λ m. IsMerge (choices_of m.entries) S.plan.choices) }
 {
+    let PerActor { c, a, b } = done;
     if c.refused || a.refused || b.refused {
         return Err(AllocError);
     }
@@ -85,12 +103,7 @@ fn close<S: Of, C: Side, A: Side, B: Side>(
 }
 
 /// What the three workers hand back: nothing where a worker could not be started.
-#[derive(Drop)]
-struct Crew<C: Side, A: Side, B: Side> {
-    c: Option<Done<C>>,
-    a: Option<Done<A>>,
-    b: Option<Done<B>>,
-}
+type Crew<C, A, B> = PerActor<Option<Done<C>>, Option<Done<A>>, Option<Done<B>>>;
 
 /// Starts the three workers, and waits for each that was started.
 fn run_crew<'x, S, C, A, B, R, G, W>(
@@ -98,9 +111,7 @@ fn run_crew<'x, S, C, A, B, R, G, W>(
     gate: &'x G,
     allowance: &'x W,
     desk: &'x Mutex<Desk<S, C, A, B>>,
-    c: Seat<C>,
-    a: Seat<A>,
-    b: Seat<B>,
+    seats: PerActor<Seat<C>, Seat<A>, Seat<B>>,
 ) -> Crew<C, A, B>
 where
     S: Of + Send + Sync,
@@ -110,10 +121,11 @@ where
     R: Threads + Wait + Sync,
     G: Gate + Sync,
     W: Allowance + Sync,
-    requires c { IsLedgerOf client S.plan.choices C.parts C.turns × (c.turns ≡ C.turns) }
-    requires a { IsLedgerOf node_a S.plan.choices A.parts A.turns × (a.turns ≡ A.turns) }
-    requires b { IsLedgerOf node_b S.plan.choices B.parts B.turns × (b.turns ≡ B.turns) }
+    requires c { IsLedgerOf client S.plan.choices C.parts C.turns × (seats.c.turns ≡ C.turns) }
+    requires a { IsLedgerOf node_a S.plan.choices A.parts A.turns × (seats.a.turns ≡ A.turns) }
+    requires b { IsLedgerOf node_b S.plan.choices B.parts B.turns × (seats.b.turns ≡ B.turns) }
 {
+    let PerActor { c, a, b } = seats;
     thread::scope(
         thread::scope_env(),
         rt,
@@ -137,7 +149,7 @@ where
                     requires { IsLedgerOf node_b S.plan.choices B.parts B.turns × (b.turns ≡ B.turns) }
                 { work::<NodeB, _, _, _, _>(rt, gate, allowance, desk, b) },
             );
-            Crew {
+            PerActor {
                 c: one.ok().map(|thread| thread.join(rt)),
                 a: two.ok().map(|thread| thread.join(rt)),
                 b: three.ok().map(|thread| thread.join(rt)),
@@ -146,26 +158,13 @@ where
     )
 }
 
-impl<C: Side, A: Side, B: Side> Crew<C, A, B> {
-    /// What the workers hand back; nothing where one of them was not started.
-    fn whole(self) -> Option<(Done<C>, Done<A>, Done<B>)> {
-        let Crew { c, a, b } = self;
-        let c = c?;
-        let a = a?;
-        let b = b?;
-        Some((c, a, b))
-    }
-}
-
 /// As `run_allowed`, under the names that the three ledgers have.
 fn run_named<S, C, A, B, R, G, W>(
     rt: &R,
     board: Board,
     gate: &G,
     allowance: &W,
-    c: Blank,
-    a: Blank,
-    b: Blank,
+    blanks: PerActor<Blank, Blank, Blank>,
 ) -> Result<Machine, Fault>
 where
     S: Of + Send + Sync,
@@ -177,35 +176,35 @@ where
     W: Allowance + Sync,
     requires board { (board.machine.scenario ≡ S.plan) × (board.c.cursor ≡ 0) × (board.a.cursor ≡ 0)
         × (board.b.cursor ≡ 0) }
-    requires c { (c.name ≡ C.name) × (c.parts ≡ C.parts)
+    requires c { (blanks.c.name ≡ C.name) × (blanks.c.parts ≡ C.parts)
         × IsLedgerOf client S.plan.choices C.parts C.turns }
-    requires a { (a.name ≡ A.name) × (a.parts ≡ A.parts)
+    requires a { (blanks.a.name ≡ A.name) × (blanks.a.parts ≡ A.parts)
         × IsLedgerOf node_a S.plan.choices A.parts A.turns }
-    requires b { (b.name ≡ B.name) × (b.parts ≡ B.parts)
+    requires b { (blanks.b.name ≡ B.name) × (blanks.b.parts ≡ B.parts)
         × IsLedgerOf node_b S.plan.choices B.parts B.turns }
     ensures scenario { IfOk result (λ m. m.scenario ≡ S.plan) }
     ensures merge { IfOk result (λ m. IsMerge (choices_of m.entries) S.plan.choices) }
 {
-    let turns_c = board.turns(Actor::C);
-    let turns_a = board.turns(Actor::A);
-    let turns_b = board.turns(Actor::B);
+    let PerActor { c, a, b } = blanks;
     let (book_c, share_c) = c.open::<C>();
     let (book_a, share_a) = a.open::<A>();
     let (book_b, share_b) = b.open::<B>();
-    let desk = Mutex::new(open_desk::<S, C, A, B>(board, book_c, book_a, book_b));
-    let crew = run_crew(
-        rt,
-        gate,
-        allowance,
-        &desk,
-        take_seat(share_c, turns_c),
-        take_seat(share_a, turns_a),
-        take_seat(share_b, turns_b),
-    );
-    let Some((c, a, b)) = crew.whole() else {
+    let seats = PerActor {
+        c: take_seat(share_c, board.turns(Actor::C)),
+        a: take_seat(share_a, board.turns(Actor::A)),
+        b: take_seat(share_b, board.turns(Actor::B)),
+    };
+    let books = PerActor {
+        c: book_c,
+        a: book_a,
+        b: book_b,
+    };
+    let desk = Mutex::new(open_desk::<S, C, A, B>(board, books));
+    let crew = run_crew(rt, gate, allowance, &desk, seats);
+    let Some(done) = crew.whole() else {
         return Err(AllocError);
     };
-    close(desk.into_inner(), c, a, b)
+    close(desk.into_inner(), done)
 }
 
 /// Makes all choices of a scenario by three threads, one for each actor. Where one of them is out of memory it stops,
@@ -250,13 +249,10 @@ pub fn run_allowed<R: Threads + Wait + Sync, G: Gate + Sync, W: Allowance + Sync
     ensures merge { IfOk result (λ m. IsMerge (choices_of m.entries) scenario.choices) }
 {
     let board = Board::new(alloc, scenario)?;
-    run_named::<Brand, Brand, Brand, Brand, R, G, W>(
-        rt,
-        board,
-        gate,
-        allowance,
-        Blank::new(1),
-        Blank::new(1),
-        Blank::new(1),
-    )
+    let blanks = PerActor {
+        c: Blank::new(1),
+        a: Blank::new(1),
+        b: Blank::new(1),
+    };
+    run_named::<Brand, Brand, Brand, Brand, R, G, W>(rt, board, gate, allowance, blanks)
 }
