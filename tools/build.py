@@ -21,7 +21,7 @@ LOG = os.path.join(CRATES, 'build.log')
 PROGRAM = sys.argv[1] if sys.argv[1:] else 'zy_bench'
 ROOMS = os.path.join(CRATES, PROGRAM, 'out', 'rooms')
 
-# What one job of a proof takes of memory, in bytes, at most.
+# What one proof takes of memory, in bytes, at most.
 MEMORY = 3 << 30
 
 PROCESSORS = len(os.sched_getaffinity(0))
@@ -57,7 +57,7 @@ def minutes():
 
 
 def side_by_side():
-    """How many jobs there is room for: as many as there are processors, unless memory is short."""
+    """How many proofs there is room for."""
     with open('/proc/meminfo', encoding='ascii') as file:
         free = int(re.search(r'MemAvailable: *([0-9]+) kB', file.read()).group(1)) << 10
     return max(1, min(PROCESSORS, free // MEMORY))
