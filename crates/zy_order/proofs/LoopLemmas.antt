@@ -191,26 +191,32 @@ all_met h l r at t all first second third = λ x.
           ]
     ]
 
--- the next line of an actor is where it was
-pub next_on : (l : Logs) (r new : Reached) (i : ℕ) (x : Actor) (line : LogLine) → Extends r new → i < length r.visited
-    → slice_get (log_of x l) (cursor x (cursors_at r i)) ≡ Some line → slice_get (log_of x l) (cursor x (cursors_at new i)) ≡ Some line
-next_on l r new i x line e lt next = subst (λ (g : Cursors). slice_get (log_of x l) (cursor x g) ≡ Some line) (sym (e.cursors i lt)) next
-
 module _ (h : History) (l : Logs) (r : Reached) (i : ℕ) (x : Actor) (line : LogLine) (next : slice_get (log_of x l) (cursor x (cursors_at r i)) ≡ Some line) where
   -- a next line that leads on is met
-  pub met_leads : LeadsOn h r i x line → IsMet h l r i x
+  met_leads : LeadsOn h r i x line → IsMet h l r i x
   met_leads leads = λ c own fits.
       let one = same_line l (cursors_at r i) (entry_by h r i c) x line own next fits in
       let same : line.choice ≡ c = ap (λ (m : LogLine). m.choice) one ∙ fits.choice in
       subst (λ (d : Choice). IsKnown h r (advanced x (cursors_at r i)) (state_by h r i d)) same leads.known
 
   -- so is one that does not fit
-  pub met_unfit : (Agrees line (entry_by h r i line.choice) → ⊥) → IsMet h l r i x
+  met_unfit : (Agrees line (entry_by h r i line.choice) → ⊥) → IsMet h l r i x
   met_unfit unfit = λ c own fits.
       let one = same_line l (cursors_at r i) (entry_by h r i c) x line own next fits in
       let same : line.choice ≡ c = ap (λ (m : LogLine). m.choice) one ∙ fits.choice in
       let agrees = subst (λ (m : LogLine). Agrees m (entry_by h r i c)) (sym one) fits.agrees in
       absurd (unfit (subst (λ (d : Choice). Agrees line (entry_by h r i d)) (sym same) agrees))
+
+-- the next line where a path leads is met, after the search has gone on, if it leads on then or does not fit
+pub line_met : (h : History) (l : Logs) (r new : Reached) (i : ℕ) (x : Actor) (line : LogLine) (g : Cursors) → g ≡ cursors_at r i → Extends r new
+    → i < length r.visited → slice_get (log_of x l) (cursor x g) ≡ Some line → LeadsOn h new i x line ⊎ (Agrees line (entry_by h new i line.choice) → ⊥)
+    → IsMet h l new i x
+line_met h l r new i x line g is e lt next came =
+    let there = subst (λ (f : Cursors). slice_get (log_of x l) (cursor x f) ≡ Some line) (is ∙ sym (e.cursors i lt)) next in
+    elim came [
+      | inl leads ↦ met_leads h l new i x line there leads
+      | inr unfit ↦ met_unfit h l new i x line there unfit
+    ]
 
 -- a next line that may be followed alone and leads on is
 pub alone_leads : (h : History) (l : Logs) (r new : Reached) (i : ℕ) (n : Node) (line : LogLine) (m : Met) → Extends r new → i < length r.visited
