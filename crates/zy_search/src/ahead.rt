@@ -7,7 +7,7 @@ ghost use Rattle.zy_search.specs.declared.branch.Branch.{Branch as ABranch};
 ghost use Rattle.zy_search.specs.declared.plan.Plan.{Plan as APlan};
 ghost use Rattle.zy_search.specs.declared.reached.Reached.{Reached as AReached};
 
-use crate::branch::Branch;
+use crate::branch::{Branch, NumberedBranch};
 use crate::plan::Plan;
 use crate::reached::Reached;
 use crate::still::is_still;
@@ -57,26 +57,25 @@ pub(crate) fn rests(plan: &Plan, reached: &Reached, branch: Branch, here: &[u32]
 pub(crate) fn recall(
     plan: &Plan,
     reached: &Reached,
-    branch: Branch,
-    choice: usize,
+    turn: NumberedBranch,
     numbers: &mut TurnNumbers,
 ) -> Result<Option<Outcome>, AllocError>
-    requires there { branch.from < length reached.now.tree }
+    requires there { turn.branch.from < length reached.now.tree }
     requires informed { IsInformed plan.now reached.now }
-    requires choice { IsNumber plan.now choice branch.by }
-    requires here { AreNumbersAt plan.now reached.now branch.from numbers.old.here.items }
-    ensures leads { IfOk result (λ o. IfSome o (LeadsTo plan.now reached.now branch numbers.new.next.items)) }
+    requires choice { IsNumber plan.now turn.choice turn.branch.by }
+    requires here { AreNumbersAt plan.now reached.now turn.branch.from numbers.old.here.items }
+    ensures leads { IfOk result (λ o. IfSome o (LeadsTo plan.now reached.now turn.branch numbers.new.next.items)) }
     ensures here { numbers.new.here ≡ numbers.old.here }
 {
     let memory = &reached.explored.memory;
     let here = numbers.here.as_slice();
-    let Some(step) = memory.recall(choice, here) else {
+    let Some(step) = memory.recall(turn.choice, here) else {
         return Ok(None);
     };
     if is_still(step.outcome) {
         return Ok(Some(step.outcome));
     }
-    memory.follow(choice, step, here, &mut numbers.next)?;
+    memory.follow(turn.choice, step, here, &mut numbers.next)?;
     Ok(Some(step.outcome))
 }
 
@@ -95,23 +94,22 @@ fn numbered(place: usize) -> Successor
 fn successor_of(
     plan: &Plan,
     reached: &Reached,
-    branch: Branch,
-    choice: usize,
+    turn: NumberedBranch,
     numbers: &mut TurnNumbers,
     kept: &mut Vectors,
 ) -> Result<Successor, AllocError>
-    requires there { branch.from < length reached.now.tree }
+    requires there { turn.branch.from < length reached.now.tree }
     requires informed { IsInformed plan.now reached.now }
-    requires choice { IsNumber plan.now choice branch.by }
-    requires here { AreNumbersAt plan.now reached.now branch.from numbers.old.here.items }
-    ensures successor { IfOk result (IsSuccessor plan.now reached.now kept.new branch) }
+    requires choice { IsNumber plan.now turn.choice turn.branch.by }
+    requires here { AreNumbersAt plan.now reached.now turn.branch.from numbers.old.here.items }
+    ensures successor { IfOk result (IsSuccessor plan.now reached.now kept.new turn.branch) }
     ensures grows { OnOk result (Grows kept.old kept.new) }
     ensures here { numbers.new.here ≡ numbers.old.here }
 {
-    if rests(plan, reached, branch, &numbers.here) {
+    if rests(plan, reached, turn.branch, &numbers.here) {
         return Ok(Successor::Reached);
     }
-    let Some(outcome) = recall(plan, reached, branch, choice, numbers)? else {
+    let Some(outcome) = recall(plan, reached, turn, numbers)? else {
         return Ok(Successor::Unknown);
     };
     if is_still(outcome) {
@@ -144,11 +142,14 @@ fn successors_of(
     numbers.go_to(plan, reached, at)?;
     let mut by_choice = Vec::with_capacity(plan.alloc, plan.choices.len())?;
     for i in 0..plan.choices.len() {
-        let branch = Branch {
-            from: at,
-            by: plan.choices[i],
+        let turn = NumberedBranch {
+            branch: Branch {
+                from: at,
+                by: plan.choices[i],
+            },
+            choice: i,
         };
-        let successor = successor_of(plan, reached, branch, i, numbers, kept)?;
+        let successor = successor_of(plan, reached, turn, numbers, kept)?;
         by_choice.push(successor)?;
     }
     Ok(Successors {
@@ -215,14 +216,14 @@ impl Ahead {
 
     /// What is known of where the choice of a branch leads.
     #[inline(always)]
-    pub(crate) fn successor(&self, branch: Branch, choice: usize) -> Successor
-        ensures { (p : APlan) (x : AReached) → IsForeseen p x self.now → IsNumber p choice branch.by
-            → IsSuccessor p x self.now.numbers branch result }
+    pub(crate) fn successor(&self, turn: NumberedBranch) -> Successor
+        ensures { (p : APlan) (x : AReached) → IsForeseen p x self.now → IsNumber p turn.choice turn.branch.by
+            → IsSuccessor p x self.now.numbers turn.branch result }
     {
-        let Some(successors) = self.successors(branch.from) else {
+        let Some(successors) = self.successors(turn.branch.from) else {
             return Successor::Unknown;
         };
-        match successors.by_choice.get(choice) {
+        match successors.by_choice.get(turn.choice) {
             Some(successor) => *successor,
             None => Successor::Unknown,
         }

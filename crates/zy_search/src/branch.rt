@@ -9,3 +9,10 @@ pub struct Branch {
     pub from: u32,
     pub by: Choice,
 }
+
+/// A branch, and the number of its choice among those of a plan.
+#[derive(Clone, Copy)]
+pub struct NumberedBranch {
+    pub branch: Branch,
+    pub choice: usize,
+}

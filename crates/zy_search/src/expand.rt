@@ -12,7 +12,7 @@ ghost use Rattle.zy_search.specs.Visits.{ExpandsWell, LeadsTo, Meets};
 
 use crate::ahead::{Ahead, Successor, recall, rests};
 use crate::answer::{Expanded, Met};
-use crate::branch::Branch;
+use crate::branch::{Branch, NumberedBranch};
 use crate::plan::Plan;
 use crate::reached::Reached;
 use crate::scratch::Scratch;
@@ -68,19 +68,19 @@ fn attempt(
 fn learn(
     plan: &Plan,
     reached: &mut Reached,
-    branch: Branch,
-    choice: usize,
+    turn: NumberedBranch,
     scratch: &mut Scratch,
     numbers: &mut TurnNumbers,
 ) -> Result<Outcome, Fault>
-    requires ready { IsReadyFor plan.now reached.old branch scratch.old }
-    requires choice { IsNumber plan.now choice branch.by }
+    requires ready { IsReadyFor plan.now reached.old turn.branch scratch.old }
+    requires choice { IsNumber plan.now turn.choice turn.branch.by }
     ensures tree { OnOk result (reached.new.tree ≡ reached.old.tree) }
     ensures goes_on { OnOk result (GoesOn reached.old reached.new) }
-    ensures leads { IfOk result (LeadsTo plan.now reached.new branch numbers.new.next.items) }
-    ensures scratch { OnOk result (AreScratch plan.now.start reached.old.tree branch.from scratch.new) }
+    ensures leads { IfOk result (LeadsTo plan.now reached.new turn.branch numbers.new.next.items) }
+    ensures scratch { OnOk result (AreScratch plan.now.start reached.old.tree turn.branch.from scratch.new) }
     ensures here { numbers.new.here ≡ numbers.old.here }
 {
+    let NumberedBranch { branch, choice } = turn;
     let outcome = attempt(plan, &reached.tree, branch, scratch)?;
     let place = branch.from as usize;
     reached
@@ -93,24 +93,23 @@ fn learn(
 fn outcome_of(
     plan: &Plan,
     reached: &mut Reached,
-    branch: Branch,
-    choice: usize,
+    turn: NumberedBranch,
     scratch: &mut Scratch,
     numbers: &mut TurnNumbers,
 ) -> Result<Outcome, Fault>
-    requires ready { IsReadyFor plan.now reached.old branch scratch.old }
-    requires choice { IsNumber plan.now choice branch.by }
-    requires here { AreNumbersAt plan.now reached.old branch.from numbers.old.here.items }
+    requires ready { IsReadyFor plan.now reached.old turn.branch scratch.old }
+    requires choice { IsNumber plan.now turn.choice turn.branch.by }
+    requires here { AreNumbersAt plan.now reached.old turn.branch.from numbers.old.here.items }
     ensures tree { OnOk result (reached.new.tree ≡ reached.old.tree) }
     ensures goes_on { OnOk result (GoesOn reached.old reached.new) }
-    ensures leads { IfOk result (LeadsTo plan.now reached.new branch numbers.new.next.items) }
-    ensures scratch { OnOk result (AreScratch plan.now.start reached.old.tree branch.from scratch.new) }
+    ensures leads { IfOk result (LeadsTo plan.now reached.new turn.branch numbers.new.next.items) }
+    ensures scratch { OnOk result (AreScratch plan.now.start reached.old.tree turn.branch.from scratch.new) }
     ensures here { numbers.new.here ≡ numbers.old.here }
 {
-    if let Some(outcome) = recall(plan, reached, branch, choice, numbers)? {
+    if let Some(outcome) = recall(plan, reached, turn, numbers)? {
         return Ok(outcome);
     }
-    learn(plan, reached, branch, choice, scratch, numbers)
+    learn(plan, reached, turn, scratch, numbers)
 }
 
 /// Whether the state that a branch leads to shows what is looked for, which that of its path does not. Where only a commit
@@ -192,23 +191,22 @@ fn note(
 fn meet_unknown(
     plan: &Plan,
     reached: &mut Reached,
-    branch: Branch,
-    choice: usize,
+    turn: NumberedBranch,
     scratch: &mut Scratch,
     numbers: &mut TurnNumbers,
 ) -> Result<Met, Fault>
-    requires ready { IsReadyFor plan.now reached.old branch scratch.old }
-    requires choice { IsNumber plan.now choice branch.by }
-    requires here { AreNumbersAt plan.now reached.old branch.from numbers.old.here.items }
-    ensures meets { IfOk result (Meets plan.now reached.old.tree reached.new branch scratch.new) }
+    requires ready { IsReadyFor plan.now reached.old turn.branch scratch.old }
+    requires choice { IsNumber plan.now turn.choice turn.branch.by }
+    requires here { AreNumbersAt plan.now reached.old turn.branch.from numbers.old.here.items }
+    ensures meets { IfOk result (Meets plan.now reached.old.tree reached.new turn.branch scratch.new) }
     ensures goes_on { OnOk result (GoesOn reached.old reached.new) }
     ensures here { numbers.new.here ≡ numbers.old.here }
 {
-    let outcome = outcome_of(plan, reached, branch, choice, scratch, numbers)?;
+    let outcome = outcome_of(plan, reached, turn, scratch, numbers)?;
     if is_still(outcome) {
         return Ok(Met::Noted);
     }
-    note(plan, reached, branch, scratch, &numbers.next)
+    note(plan, reached, turn.branch, scratch, &numbers.next)
 }
 
 /// Takes in the state that a branch leads to, by the numbers that are kept of it at a place, unless it was taken in.
@@ -244,29 +242,28 @@ fn take_in(
 fn meet(
     plan: &Plan,
     reached: &mut Reached,
-    branch: Branch,
-    choice: usize,
+    turn: NumberedBranch,
     ahead: &mut Ahead,
     scratch: &mut Scratch,
     numbers: &mut TurnNumbers,
 ) -> Result<Met, Fault>
-    requires ready { IsReadyFor plan.now reached.old branch scratch.old }
-    requires choice { IsNumber plan.now choice branch.by }
-    requires here { AreNumbersAt plan.now reached.old branch.from numbers.old.here.items }
+    requires ready { IsReadyFor plan.now reached.old turn.branch scratch.old }
+    requires choice { IsNumber plan.now turn.choice turn.branch.by }
+    requires here { AreNumbersAt plan.now reached.old turn.branch.from numbers.old.here.items }
     requires ahead { IsForeseen plan.now reached.old ahead.old }
-    ensures meets { IfOk result (Meets plan.now reached.old.tree reached.new branch scratch.new) }
+    ensures meets { IfOk result (Meets plan.now reached.old.tree reached.new turn.branch scratch.new) }
     ensures goes_on { OnOk result (GoesOn reached.old reached.new) }
     ensures ahead { OnOk result (IsForeseen plan.now reached.new ahead.new) }
     ensures here { numbers.new.here ≡ numbers.old.here }
 {
-    if rests(plan, reached, branch, &numbers.here) {
+    if rests(plan, reached, turn.branch, &numbers.here) {
         return Ok(Met::Noted);
     }
-    match ahead.successor(branch, choice) {
-        Successor::Unknown => meet_unknown(plan, reached, branch, choice, scratch, numbers),
+    match ahead.successor(turn) {
+        Successor::Unknown => meet_unknown(plan, reached, turn, scratch, numbers),
         Successor::Reached => Ok(Met::Noted),
         Successor::Numbered(place) => {
-            take_in(plan, reached, branch, place as usize, ahead, scratch)
+            take_in(plan, reached, turn.branch, place as usize, ahead, scratch)
         }
     }
 }
@@ -309,11 +306,14 @@ fn meet_each(
 {
     for i in 0..plan.choices.len() {
         let choice = plan.choices[i];
-        let branch = Branch {
-            from: at,
-            by: choice,
+        let turn = NumberedBranch {
+            branch: Branch {
+                from: at,
+                by: choice,
+            },
+            choice: i,
         };
-        match meet(plan, reached, branch, i, ahead, scratch, numbers)? {
+        match meet(plan, reached, turn, ahead, scratch, numbers)? {
             Met::Noted => {}
             Met::Shown => {
                 let path = with_choice(plan.alloc, &reached.tree, at, choice)?;

@@ -13,10 +13,10 @@ pub returns-clause-leads : goal.returns-clause-leads
 returns-clause-leads c =
     let p = c.args.plan.now in
     let x = c.args.reached.now in
-    let b = c.args.branch in
+    let b = c.args.turn.branch in
     let sc = p.start.scenario in
     let s = reached p.start (path_at x.tree b.from) in
-    let is = sym (remembered_choice p x c.requires.ready.informed c.args.choice b.by c.requires.choice) in
+    let is = sym (remembered_choice p x c.requires.ready.informed c.args.turn.choice b.by c.requires.choice) in
     let made = c.in_ok-outcome.ensures in
     let kept = c.in_ok-learn.ensures in
     let outcome = ap uncounted made.outcome in

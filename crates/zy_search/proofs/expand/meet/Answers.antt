@@ -10,8 +10,8 @@ returns-then-rests c =
     let p = c.args.plan.now in
     let x = c.args.reached.now in
     record {
-      meets = known_met p x c.args.branch c.args.scratch.now c.requires.ready
-          (still_known p x.tree c.args.branch c.requires.ready.turn.ready.there (c.rests.ensures c.if-rests.true));
+      meets = known_met p x c.args.turn.branch c.args.scratch.now c.requires.ready
+          (still_known p x.tree c.args.turn.branch c.requires.ready.turn.ready.there (c.rests.ensures c.if-rests.true));
       goes_on = stays x;
       ahead = c.requires.ahead;
       here = refl;
@@ -22,7 +22,7 @@ returns-in-Reached c =
     let p = c.args.plan.now in
     let x = c.args.reached.now in
     record {
-      meets = known_met p x c.args.branch c.args.scratch.now c.requires.ready
+      meets = known_met p x c.args.turn.branch c.args.scratch.now c.requires.ready
           (rw c.in-Reached.is at c.successor.ensures p x c.requires.ahead c.requires.choice);
       goes_on = stays x;
       ahead = c.requires.ahead;

@@ -13,7 +13,7 @@ returns-then-is_still c =
     let still = rw made.tree at made.leads.still in
     record {
       meets = record {
-        well = rw made.tree (still_noted p old c.args.branch c.requires.ready.turn (sym still ∙ (sym c.is_still.ensures ∙ c.if-is_still.true)));
+        well = rw made.tree (still_noted p old c.args.turn.branch c.requires.ready.turn (sym still ∙ (sym c.is_still.ensures ∙ c.if-is_still.true)));
         informed = made.leads.informed;
         machines = rw made.tree made.scratch;
       };
