@@ -146,16 +146,14 @@ class Build:
         self.begun, self.room = time.monotonic(), side_by_side()
 
     def begin(self):
-        """Begins proofs while there is room, first those on which most of the work waits. They share the processors, so that one that begins where no other
-        waits has those that are idle. The one of all on which most of the work waits goes before the others, and has all processors but one at least."""
+        """Begins proofs while there is room, first those on which most of the work waits. The one of all on which most waits goes before the others, on all
+        processors; each of the others has two jobs, for what that one leaves idle."""
         ready = sorted((name for name in self.left if self.needs[name] <= self.done), key=self.behind.get, reverse=True)
         first = max(self.needs.keys() - self.done, key=self.behind.get)
-        begins = ready[:self.room - len(self.under_way)]
-        share = self.room // max(1, len(self.under_way) + len(begins))
-        for name in begins:
-            is_first = name == first
+        for name in ready[:self.room - len(self.under_way)]:
             self.left.remove(name)
-            self.under_way.append(Proof(name, self.below(name), max(1, share, self.room - 1 if is_first else 0), is_first))
+            jobs = self.room if name == first else min(2, self.room)
+            self.under_way.append(Proof(name, self.below(name), jobs, name == first))
 
     def below(self, name):
         """All crates that a crate uses, by way of others too."""
