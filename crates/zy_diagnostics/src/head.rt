@@ -19,6 +19,7 @@ pub struct Head {
     pub choice: Option<&'static str>,
 }
 
+/// The version of the text.
 const VERSION: Head = Head {
     word: "zephyr",
     ordinal: "first",
@@ -27,6 +28,7 @@ const VERSION: Head = Head {
     choice: Some("version"),
 };
 
+/// The most rows of a page.
 const CAP: Head = Head {
     word: "cap",
     ordinal: "second",
@@ -35,6 +37,7 @@ const CAP: Head = Head {
     choice: None,
 };
 
+/// The most pages.
 const PAGES: Head = Head {
     word: "pages",
     ordinal: "third",
@@ -43,6 +46,7 @@ const PAGES: Head = Head {
     choice: None,
 };
 
+/// The rule for locked pages.
 const RULE: Head = Head {
     word: "rule",
     ordinal: "fourth",

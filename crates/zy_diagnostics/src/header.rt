@@ -149,7 +149,7 @@ impl TextAdvice<'_> {
     }
 }
 
-/// Says how a word was meant with which a line of the header begins, where it can be seen.
+/// Says what a word was meant to be that a line of the header begins with, if one can tell.
 fn tell_meant_head<W: fmt::Write>(
     f: &mut fmt::Formatter<W>,
     word: &[u8],
