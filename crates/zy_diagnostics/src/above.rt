@@ -6,7 +6,7 @@ use zy_text::names::is;
 use zy_text::numbers::number_of;
 
 /// Where in a text a line is.
-#[derive(Clone, Copy, Debug, PartialEq, Eq)]
+#[derive(Clone, Copy)]
 pub enum TextPart {
     /// In the header, of which this number of statements is above.
     Header(usize),

@@ -16,12 +16,17 @@ impl fmt::Display for Bytes<'_> {
 }
 
 /// Shows one byte.
-fn show_byte<W: fmt::Write>(f: &mut fmt::Formatter<W>, byte: u8) -> fmt::Result {
+pub fn show_byte<W: fmt::Write>(f: &mut fmt::Formatter<W>, byte: u8) -> fmt::Result {
     if byte.is_ascii_graphic() || byte == b' ' {
         f.write_char(char::from(byte))
     } else {
-        write!(f, "\\x{byte:02x}")
+        show_code(f, byte)
     }
+}
+
+/// Shows a byte as `\xNN`.
+pub fn show_code<W: fmt::Write>(f: &mut fmt::Formatter<W>, byte: u8) -> fmt::Result {
+    write!(f, "\\x{byte:02x}")
 }
 
 /// A word of an input, in quotes; what is over 40 bytes of it is shown as two dots.
@@ -33,10 +38,9 @@ const MOST: usize = 40;
 
 impl fmt::Display for Quoted<'_> {
     fn fmt<W: fmt::Write>(&self, f: &mut fmt::Formatter<W>) -> fmt::Result {
-        match self.0.get(..MOST) {
-            Some(front) if self.0.len() > MOST => write!(f, "'{}'..", Bytes(front)),
-            _ => write!(f, "'{}'", Bytes(self.0)),
-        }
+        let front = Bytes(self.0.get(..MOST).unwrap_or(self.0));
+        let dots = if self.0.len() > MOST { ".." } else { "" };
+        write!(f, "'{front}'{dots}")
     }
 }
 

@@ -2,6 +2,7 @@
 
 use crate::above::{Above, TextPart};
 use crate::form::{Form, Shape};
+use crate::head::Head;
 use crate::line::Statement;
 use zy_asm::Reason;
 use zy_text::names::{is, is_name, is_numeral, label_of};
@@ -25,22 +26,9 @@ pub fn culprit(statement: Statement<'_>, above: Above, reason: Reason) -> usize 
     }
 }
 
-/// The statements of the header begin with these words.
-pub const HEADS: [&'static str; 4] = ["zephyr", "cap", "pages", "rule"];
-
-/// The word that a line of the header is to begin with.
-pub fn head(part: TextPart) -> &'static str {
-    match part {
-        TextPart::Header(0) => "zephyr",
-        TextPart::Header(1) => "cap",
-        TextPart::Header(2) => "pages",
-        _ => "rule",
-    }
-}
-
 /// The word that does not belong to a statement of the header.
 fn in_header(statement: Statement<'_>, part: TextPart) -> usize {
-    if !is(statement.text(0), head(part).as_bytes()) {
+    if !Head::of(part).begins(statement) {
         return 0;
     }
     match statement.count() {

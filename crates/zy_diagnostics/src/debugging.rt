@@ -1,8 +1,8 @@
 //! Why a line is no command of the debugger.
 
-use crate::bytes::Quoted;
+use crate::bytes::{Bytes, Quoted};
 use crate::line::Statement;
-use crate::meant::Meant;
+use crate::meant::{Meant, tell_meant};
 use std::fmt;
 use zy_text::names::is;
 use zy_text::numbers::number_of;
@@ -17,7 +17,7 @@ const COMMANDS: [&'static str; 13] = [
 const STOPS: [&'static str; 3] = ["page", "mode", "abort"];
 
 /// What a command takes.
-#[derive(Clone, Copy, Debug, PartialEq, Eq)]
+#[derive(Clone, Copy)]
 enum Form {
     /// Nothing.
     Lone,
@@ -32,17 +32,37 @@ enum Form {
 impl Form {
     /// What the command takes that begins with a word.
     fn of(word: &[u8]) -> Option<Form> {
-        match word {
-            b"cont" | b"rcont" | b"links" | b"where" => Some(Form::Lone),
-            b"step" | b"back" | b"goto" => Some(Form::Number("N")),
-            b"watch" => Some(Form::Number("K")),
-            b"delete" => Some(Form::Number("I")),
-            b"page" => Some(Form::Number("P")),
-            b"txn" => Some(Form::Number("T")),
-            b"break" => Some(Form::Break),
-            b"node" => Some(Form::Node),
-            _ => None,
+        if is_lone(word) {
+            Some(Form::Lone)
+        } else if is(word, b"break") {
+            Some(Form::Break)
+        } else if is(word, b"node") {
+            Some(Form::Node)
+        } else {
+            Some(Form::Number(letter_of(word)?))
         }
+    }
+}
+
+/// Whether a command takes nothing.
+fn is_lone(word: &[u8]) -> bool {
+    is(word, b"cont") || is(word, b"rcont") || is(word, b"links") || is(word, b"where")
+}
+
+/// The letter for the number that a command takes.
+fn letter_of(word: &[u8]) -> Option<&'static str> {
+    if is(word, b"step") || is(word, b"back") || is(word, b"goto") {
+        Some("N")
+    } else if is(word, b"watch") {
+        Some("K")
+    } else if is(word, b"delete") {
+        Some("I")
+    } else if is(word, b"page") {
+        Some("P")
+    } else if is(word, b"txn") {
+        Some("T")
+    } else {
+        None
     }
 }
 
@@ -64,29 +84,25 @@ impl<'a> BadCommand<'a> {
     fn tell_unknown<W: fmt::Write>(&self, f: &mut fmt::Formatter<W>) -> fmt::Result {
         let word = self.line.text(0);
         write!(f, "there is no command {}: ", Quoted(word))?;
-        match Meant::of(word, &COMMANDS) {
-            Some(meant) => write!(f, "{meant}"),
-            None => f.write_str(
-                "there are step, back, goto, cont, rcont, break, watch, delete, page, txn, node, links and where",
-            ),
-        }
+        tell_meant(
+            f,
+            Meant::of(word, &COMMANDS),
+            "there are step, back, goto, cont, rcont, break, watch, delete, page, txn, node, links and where",
+        )
     }
 
     /// Says that a command takes a number, which is the word at this place and its last one.
     fn tell_number<W: fmt::Write>(
         &self,
         f: &mut fmt::Formatter<W>,
-        command: &str,
-        letter: &str,
+        command: Bytes<'_>,
+        letter: &'static str,
         at: usize,
     ) -> fmt::Result {
-        let word = self.line.text(at);
         if self.line.count() != at.saturating_add(1) {
             write!(f, "{command} takes one number")?;
-        } else if number_of(word).is_some() {
-            write!(f, "{} is above 4294967295", Quoted(word))?;
         } else {
-            write!(f, "{} is no number of 1 to 10 digits", Quoted(word))?;
+            tell_bad_number(f, self.line.text(at))?;
         }
         write!(f, ": {command} {letter}")
     }
@@ -95,7 +111,7 @@ impl<'a> BadCommand<'a> {
     fn tell_break<W: fmt::Write>(&self, f: &mut fmt::Formatter<W>) -> fmt::Result {
         let word = self.line.text(1);
         if is(word, b"page") {
-            return self.tell_number(f, "break page", "P", 2);
+            return self.tell_number(f, Bytes(b"break page"), "P", 2);
         }
         if is(word, b"mode") || is(word, b"abort") {
             return f.write_str("nothing comes behind break mode and break abort");
@@ -107,6 +123,16 @@ impl<'a> BadCommand<'a> {
     }
 }
 
+/// Says why a word is no number that a command takes.
+fn tell_bad_number<W: fmt::Write>(f: &mut fmt::Formatter<W>, word: &[u8]) -> fmt::Result {
+    let why = if number_of(word).is_some() {
+        "is above 4294967295"
+    } else {
+        "is no number of 1 to 10 digits"
+    };
+    write!(f, "{} {why}", Quoted(word))
+}
+
 /// What is wrong, and what to write.
 impl fmt::Display for BadCommand<'_> {
     fn fmt<W: fmt::Write>(&self, f: &mut fmt::Formatter<W>) -> fmt::Result {
@@ -116,10 +142,7 @@ impl fmt::Display for BadCommand<'_> {
             Some(Form::Break) => self.tell_break(f),
             Some(Form::Node) => f.write_str("it is node A or node B"),
             Some(Form::Lone) => write!(f, "nothing comes behind {}", Quoted(word)),
-            Some(Form::Number(letter)) => match std::str::from_utf8(word) {
-                Ok(command) => self.tell_number(f, command, letter, 1),
-                Err(_) => self.tell_unknown(f),
-            },
+            Some(Form::Number(letter)) => self.tell_number(f, Bytes(word), letter, 1),
         }
     }
 }

@@ -8,7 +8,7 @@ use zy_isa::{Operation, Version};
 use zy_text::names::is;
 
 /// What follows the first word of a statement, or in a choice the second.
-#[derive(Clone, Copy, Debug, PartialEq, Eq)]
+#[derive(Clone, Copy, PartialEq, Eq)]
 pub enum Shape {
     /// A key and a value.
     Row,
@@ -90,6 +90,11 @@ impl<'a> Form<'a> {
     pub fn pattern(self) -> Pattern<'a> {
         Pattern(self)
     }
+
+    /// Says this, and how it is written.
+    pub fn tell<W: fmt::Write>(self, f: &mut fmt::Formatter<W>, what: &str) -> fmt::Result {
+        write!(f, "{what}: {}", self.pattern())
+    }
 }
 
 /// The shape of a statement that begins with these words.
@@ -147,30 +152,39 @@ pub fn is_plain_of_node(action: &[u8]) -> bool {
 /// What it takes, and how it is written.
 impl fmt::Display for Form<'_> {
     fn fmt<W: fmt::Write>(&self, f: &mut fmt::Formatter<W>) -> fmt::Result {
-        let (first, second) = (Bytes(self.first), Bytes(self.second));
-        match self.shape {
-            Shape::Client | Shape::Node => write!(f, "behind {first} comes an action")?,
-            Shape::OnTxn => write!(f, "{first} {second} takes one transaction")?,
-            Shape::Plain => write!(f, "{first} {second} takes no transaction")?,
-            _ => write!(f, "{first} takes {}", self.shape)?,
-        }
+        self.tell_takes(f)?;
         write!(f, ": {}", self.pattern())
     }
 }
 
-/// What follows the first word.
-impl fmt::Display for Shape {
-    fn fmt<W: fmt::Write>(&self, f: &mut fmt::Formatter<W>) -> fmt::Result {
-        f.write_str(match self {
+impl Form<'_> {
+    /// Says what it takes.
+    fn tell_takes<W: fmt::Write>(self, f: &mut fmt::Formatter<W>) -> fmt::Result {
+        let (first, takes) = (Bytes(self.first), self.shape.takes());
+        match self.shape {
+            Shape::Client | Shape::Node => write!(f, "behind {first} comes {takes}"),
+            Shape::OnTxn | Shape::Plain => {
+                write!(f, "{first} {} takes {takes}", Bytes(self.second))
+            }
+            _ => write!(f, "{first} takes {takes}"),
+        }
+    }
+}
+
+impl Shape {
+    /// What follows the first word, or in a choice the second.
+    fn takes(self) -> &'static str {
+        match self {
             Shape::Row => "a key and a value",
             Shape::Txn => "one number or name",
             Shape::Number => "a register and a number",
             Shape::Pair => "two registers",
             Shape::Jump => "two registers and a target",
             Shape::Client | Shape::Node => "an action",
-            Shape::OnTxn => "a transaction",
-            Shape::Lone | Shape::Plain => "nothing",
-        })
+            Shape::OnTxn => "one transaction",
+            Shape::Plain => "no transaction",
+            Shape::Lone => "nothing",
+        }
     }
 }
 
@@ -180,21 +194,49 @@ pub struct Pattern<'a>(Form<'a>);
 
 impl fmt::Display for Pattern<'_> {
     fn fmt<W: fmt::Write>(&self, f: &mut fmt::Formatter<W>) -> fmt::Result {
-        let (first, second) = (Bytes(self.0.first), Bytes(self.0.second));
-        match self.0.shape {
+        let form = self.0;
+        match form.shape {
             Shape::Row => f.write_str("row K V"),
             Shape::Txn => f.write_str("txn T"),
-            Shape::Number => write!(f, "{first} rA N"),
-            Shape::Pair => write!(f, "{first} rA rB"),
-            Shape::Jump => write!(f, "{first} rA rB LABEL, or {first} rA rB @N"),
-            Shape::Lone => write!(f, "{first}"),
+            Shape::Number => form.show(f, " rA N"),
+            Shape::Pair => form.show(f, " rA rB"),
+            Shape::Jump => form.show_jump(f),
+            Shape::Lone => form.show(f, ""),
             Shape::Client => f.write_str("C start, C begin T or C kill T"),
-            Shape::Node => write!(
-                f,
-                "{first} run T, {first} take, {first} push or {first} finish"
-            ),
-            Shape::OnTxn => write!(f, "{first} {second} T, or {first} {second} T x N"),
-            Shape::Plain => write!(f, "{first} {second}, or {first} {second} x N"),
+            Shape::Node => form.show_actions(f),
+            Shape::OnTxn => form.show_choice(f, " T"),
+            Shape::Plain => form.show_choice(f, ""),
         }
+    }
+}
+
+impl Form<'_> {
+    /// Shows its first word and this behind it.
+    fn show<W: fmt::Write>(self, f: &mut fmt::Formatter<W>, behind: &str) -> fmt::Result {
+        write!(f, "{}{behind}", Bytes(self.first))
+    }
+
+    /// Shows a jump, to a label or to a number.
+    fn show_jump<W: fmt::Write>(self, f: &mut fmt::Formatter<W>) -> fmt::Result {
+        let first = Bytes(self.first);
+        write!(f, "{first} rA rB LABEL, or {first} rA rB @N")
+    }
+
+    /// Shows a choice, made once or several times, with this behind its action.
+    fn show_choice<W: fmt::Write>(self, f: &mut fmt::Formatter<W>, behind: &str) -> fmt::Result {
+        let (actor, action) = (Bytes(self.first), Bytes(self.second));
+        write!(
+            f,
+            "{actor} {action}{behind}, or {actor} {action}{behind} x N"
+        )
+    }
+
+    /// Shows the choices of a node.
+    fn show_actions<W: fmt::Write>(self, f: &mut fmt::Formatter<W>) -> fmt::Result {
+        f.write_str(if is(self.first, b"A") {
+            "A run T, A take, A push or A finish"
+        } else {
+            "B run T, B take, B push or B finish"
+        })
     }
 }

@@ -55,7 +55,7 @@ impl<'a> ImageAdvice<'a> {
 
 impl fmt::Display for ImageAdvice<'_> {
     fn fmt<W: fmt::Write>(&self, f: &mut fmt::Formatter<W>) -> fmt::Result {
-        write!(f, "{}", self.refusal)?;
+        fmt::Display::fmt(&self.refusal, f)?;
         if self.input.is_empty() {
             f.write_str("; the input is empty")
         } else if is_text(self.input) {

@@ -16,7 +16,7 @@ impl<'a> Meant<'a> {
     /// Which of these words is meant, if any is.
     pub fn of(word: &[u8], known: &[&'a str]) -> Option<Meant<'a>> {
         for name in known {
-            if is_same_word(word, name.as_bytes()) {
+            if word.eq_ignore_ascii_case(name.as_bytes()) {
                 return Some(Meant::Small(name));
             }
         }
@@ -38,16 +38,21 @@ impl fmt::Display for Meant<'_> {
     }
 }
 
-/// Whether two words are the same but for capital letters.
-fn is_same_word(word: &[u8], other: &[u8]) -> bool {
-    let mut pairs = word.iter().zip(other.iter());
-    word.len() == other.len()
-        && pairs.all(|(a, b)| a.to_ascii_lowercase() == b.to_ascii_lowercase())
+/// Says which word is meant, or else this.
+pub fn tell_meant<W: fmt::Write>(
+    f: &mut fmt::Formatter<W>,
+    meant: Option<Meant<'_>>,
+    otherwise: &str,
+) -> fmt::Result {
+    match meant {
+        Some(meant) => fmt::Display::fmt(&meant, f),
+        None => f.write_str(otherwise),
+    }
 }
 
 /// Whether a word may be a mistyped other one.
 pub fn is_alike(word: &[u8], other: &[u8]) -> bool {
-    is_same_word(word, other) || is_near(word, other)
+    word.eq_ignore_ascii_case(other) || is_near(word, other)
 }
 
 /// Whether a word of two letters or more differs from another by one mistake: a letter that is missing, too many or

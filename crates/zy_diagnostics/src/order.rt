@@ -1,7 +1,7 @@
 //! What is wrong with the order of statements, and with how many there are.
 
 use crate::above::TextPart;
-use crate::culprit::HEADS;
+use crate::head::is_head;
 use crate::text::TextAdvice;
 use std::fmt;
 use zy_text::names::is;
@@ -10,21 +10,29 @@ impl TextAdvice<'_> {
     /// Says where a statement is allowed that is not allowed here.
     pub(crate) fn tell_misplaced<W: fmt::Write>(&self, f: &mut fmt::Formatter<W>) -> fmt::Result {
         let word = self.word();
-        write!(f, "{}: ", self.reason)?;
-        if HEADS.iter().any(|head| is(word, head.as_bytes())) {
-            return f.write_str("zephyr, cap, pages and rule come once, at the head of the text");
-        }
-        if is(word, b"row") {
-            return f.write_str("rows come above the first program");
-        }
-        if is(word, b"txn") {
-            f.write_str("programs come above the first choice")?;
+        self.tell_reason(f)?;
+        if is_head(word) {
+            f.write_str("zephyr, cap, pages and rule come once, at the head of the text")
+        } else if is(word, b"row") {
+            f.write_str("rows come above the first program")
         } else {
-            f.write_str("an instruction or a label belongs in a program")?;
+            self.tell_place_of(f, word)
         }
+    }
+
+    /// Says where a program is allowed, or what belongs in one.
+    fn tell_place_of<W: fmt::Write>(&self, f: &mut fmt::Formatter<W>, word: &[u8]) -> fmt::Result {
+        let (allowed, above) = if is(word, b"txn") {
+            ("programs come above the first choice", "")
+        } else {
+            (
+                "an instruction or a label belongs in a program",
+                ", above the first choice",
+            )
+        };
+        f.write_str(allowed)?;
         match self.above.part() {
-            TextPart::Choices(line) if is(word, b"txn") => write!(f, ", which is line {line}"),
-            TextPart::Choices(line) => write!(f, ", above the first choice, which is line {line}"),
+            TextPart::Choices(line) => write!(f, "{above}, which is line {line}"),
             _ => f.write_str(", below its line txn T"),
         }
     }

@@ -1,6 +1,6 @@
 //! Where in an input a fault is.
 
-use crate::bytes::Bytes;
+use crate::bytes::{show_byte, show_code};
 use crate::line::{SourceLine, SourceWord};
 use crate::text::Position;
 use std::fmt;
@@ -79,18 +79,22 @@ fn trimmed(bytes: &[u8]) -> &[u8] {
 /// two dots, and a byte that does not print as `\xNN`.
 impl fmt::Display for MarkedWord<'_> {
     fn fmt<W: fmt::Write>(&self, f: &mut fmt::Formatter<W>) -> fmt::Result {
-        if let Some(line) = self.line {
-            write!(f, "line {line}, ")?;
-        }
-        let column = self.column();
-        write!(f, "column {column}: '")?;
+        self.show_position(f)?;
         self.show_end(f, self.before)?;
-        f.write_str(">")?;
-        self.show_front(f, self.word)?;
-        f.write_str("<")?;
-        self.show_front(f, self.after)?;
+        self.show_front(f, ">", self.word)?;
+        self.show_front(f, "<", self.after)?;
         f.write_str("'")
     }
+}
+
+/// Whether a byte marks the end of a word.
+fn is_mark(byte: u8) -> bool {
+    byte == b'<' || byte == b'>'
+}
+
+/// What is shown where some bytes are cut off.
+fn dots(bytes: &[u8]) -> &'static str {
+    if bytes.len() > MOST { ".." } else { "" }
 }
 
 /// How many characters there are in some UTF-8.
@@ -99,33 +103,48 @@ fn characters(bytes: &[u8]) -> usize {
 }
 
 impl MarkedWord<'_> {
+    /// Shows the column, and the line that is not the fault's.
+    fn show_position<W: fmt::Write>(self, f: &mut fmt::Formatter<W>) -> fmt::Result {
+        let column = self.column();
+        match self.line {
+            Some(line) => write!(f, "line {line}, column {column}: '"),
+            None => write!(f, "column {column}: '"),
+        }
+    }
+
     /// Shows the end of what comes before the word.
     fn show_end<W: fmt::Write>(self, f: &mut fmt::Formatter<W>, bytes: &[u8]) -> fmt::Result {
         let cut = bytes.len().saturating_sub(MOST);
-        if cut > 0 {
-            f.write_str("..")?;
-        }
+        f.write_str(dots(bytes))?;
         self.show(f, bytes.get(cut..).unwrap_or(&[]))
     }
 
-    /// Shows the first bytes of the word, or of what is behind it.
-    fn show_front<W: fmt::Write>(self, f: &mut fmt::Formatter<W>, bytes: &[u8]) -> fmt::Result {
+    /// Shows a mark, and the first bytes of the word or of what is behind it.
+    fn show_front<W: fmt::Write>(
+        self,
+        f: &mut fmt::Formatter<W>,
+        mark: &str,
+        bytes: &[u8],
+    ) -> fmt::Result {
+        f.write_str(mark)?;
         self.show(f, bytes.get(..MOST).unwrap_or(bytes))?;
-        if bytes.len() > MOST {
-            f.write_str("..")?;
-        }
-        Ok(())
+        f.write_str(dots(bytes))
     }
 
     /// Shows bytes.
     fn show<W: fmt::Write>(self, f: &mut fmt::Formatter<W>, bytes: &[u8]) -> fmt::Result {
         for byte in bytes {
-            match *byte {
-                b'<' if self.has_lone_marks => f.write_str("\\x3c")?,
-                b'>' if self.has_lone_marks => f.write_str("\\x3e")?,
-                _ => write!(f, "{}", Bytes(&[*byte]))?,
-            }
+            self.show_byte(f, *byte)?;
         }
         Ok(())
+    }
+
+    /// Shows one byte.
+    fn show_byte<W: fmt::Write>(self, f: &mut fmt::Formatter<W>, byte: u8) -> fmt::Result {
+        if self.has_lone_marks && is_mark(byte) {
+            show_code(f, byte)
+        } else {
+            show_byte(f, byte)
+        }
     }
 }

@@ -96,7 +96,7 @@ impl<'a> SourceProgram<'a> {
     /// The number of the line that has this label.
     pub fn line_of_label(self, name: &[u8]) -> Option<usize> {
         for (index, bytes) in self.below.split(is_line_feed).enumerate() {
-            if label(Statement::of(bytes)) == Some(name) {
+            if has_label(bytes, name) {
                 return Some(self.number_at(index));
             }
         }
@@ -106,14 +106,21 @@ impl<'a> SourceProgram<'a> {
     /// The first line that has a label for its target that is not there, and the label.
     pub fn missing_label(self) -> Option<(SourceLine<'a>, &'a [u8])> {
         for (index, bytes) in self.below.split(is_line_feed).enumerate() {
-            if let Some(name) = target(Statement::of(bytes)) {
-                if self.line_of_label(name).is_none() {
-                    let number = self.number_at(index);
-                    return Some((SourceLine { number, bytes }, name));
-                }
+            if let Some(name) = self.missing_in(bytes) {
+                let number = self.number_at(index);
+                return Some((SourceLine { number, bytes }, name));
             }
         }
         None
+    }
+
+    /// The label that a line has for its target, if that is not there.
+    fn missing_in(self, line: &'a [u8]) -> Option<&'a [u8]> {
+        let name = target(Statement::of(line))?;
+        match self.line_of_label(name) {
+            Some(_) => None,
+            None => Some(name),
+        }
     }
 
     /// The label that a word was meant to be.
@@ -129,6 +136,14 @@ impl<'a> SourceProgram<'a> {
     }
 }
 
+/// Whether a line begins with this label.
+fn has_label(line: &[u8], name: &[u8]) -> bool {
+    match label(Statement::of(line)) {
+        Some(label) => is(label, name),
+        None => false,
+    }
+}
+
 /// Whether a line of a program has an instruction.
 fn has_instruction(line: &[u8]) -> bool {
     let statement = Statement::of(line);
@@ -138,10 +153,11 @@ fn has_instruction(line: &[u8]) -> bool {
 /// Its number, and its name if it has one.
 impl fmt::Display for SourceProgram<'_> {
     fn fmt<W: fmt::Write>(&self, f: &mut fmt::Formatter<W>) -> fmt::Result {
-        write!(f, "program {}", self.number)?;
-        if !is_numeral(self.word) {
-            write!(f, " ({})", Bytes(self.word))?;
+        let number = self.number;
+        if is_numeral(self.word) {
+            write!(f, "program {number}")
+        } else {
+            write!(f, "program {number} ({})", Bytes(self.word))
         }
-        Ok(())
     }
 }

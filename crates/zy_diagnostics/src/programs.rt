@@ -5,6 +5,7 @@ use crate::label::label;
 use crate::program::SourceProgram;
 use crate::text::TextAdvice;
 use std::fmt;
+use zy_asm::Reason;
 use zy_isa::ProgramFault;
 
 impl<'a> TextAdvice<'a> {
@@ -22,12 +23,22 @@ impl<'a> TextAdvice<'a> {
         }
     }
 
+    /// Says that there is no transaction of a number.
+    pub(crate) fn tell_no_transaction<W: fmt::Write>(
+        &self,
+        f: &mut fmt::Formatter<W>,
+        number: u64,
+    ) -> fmt::Result {
+        write!(f, "there is no transaction {number}: ")?;
+        self.tell_programs(f)
+    }
+
     /// Says that no program has a name.
     pub(crate) fn tell_no_program_of_name<W: fmt::Write>(
         &self,
         f: &mut fmt::Formatter<W>,
     ) -> fmt::Result {
-        write!(f, "{}: ", self.reason)?;
+        self.tell_reason(f)?;
         match SourceProgram::meant(self.lines, self.word()) {
             Some(program) => write!(f, "did you mean {program}"),
             None => self.tell_programs(f),
@@ -36,72 +47,100 @@ impl<'a> TextAdvice<'a> {
 
     /// Says which program has a name already.
     pub(crate) fn tell_name_twice<W: fmt::Write>(&self, f: &mut fmt::Formatter<W>) -> fmt::Result {
-        write!(f, "{}", self.reason)?;
         match SourceProgram::named(self.lines, self.word()) {
-            Some(program) => write!(f, ": {program}, in line {}", program.line),
-            None => Ok(()),
+            Some(program) => write!(f, "{}: {program}, in line {}", self.reason, program.line),
+            None => fmt::Display::fmt(&self.reason, f),
         }
     }
 
-    /// Says which program lacks a label.
-    pub(crate) fn tell_no_label<W: fmt::Write>(&self, f: &mut fmt::Formatter<W>) -> fmt::Result {
-        let missing = self.program().and_then(|program| program.missing_label());
-        let (Some(program), Some((_, name))) = (self.program(), missing) else {
-            return write!(f, "{}", self.reason);
-        };
-        write!(f, "the label {} is not defined in {program}", Quoted(name))?;
-        match program.meant_label(name) {
-            Some(label) => write!(f, ": did you mean {}", Quoted(label)),
-            None => Ok(()),
+    /// Says what is wrong with the last program above the line.
+    pub(crate) fn tell_of_program<W: fmt::Write>(
+        &self,
+        f: &mut fmt::Formatter<W>,
+        program: SourceProgram<'_>,
+    ) -> fmt::Result {
+        match self.reason {
+            Reason::NoLabel(_) => self.tell_no_label(f, program),
+            Reason::LabelTwice(_) => self.tell_label_twice(f, program),
+            Reason::NoProgram { fault, .. } => self.tell_no_program(f, program, fault),
+            Reason::InstrCount => write!(f, "{}, and {program} has them already", self.reason),
+            _ => fmt::Display::fmt(&self.reason, f),
+        }
+    }
+
+    /// Says that a program lacks a label.
+    fn tell_no_label<W: fmt::Write>(
+        &self,
+        f: &mut fmt::Formatter<W>,
+        program: SourceProgram<'_>,
+    ) -> fmt::Result {
+        match program.missing_label() {
+            Some((_, name)) => tell_missing_label(f, program, name),
+            None => fmt::Display::fmt(&self.reason, f),
         }
     }
 
     /// Says which line has a label already.
-    pub(crate) fn tell_label_twice<W: fmt::Write>(&self, f: &mut fmt::Formatter<W>) -> fmt::Result {
+    fn tell_label_twice<W: fmt::Write>(
+        &self,
+        f: &mut fmt::Formatter<W>,
+        program: SourceProgram<'_>,
+    ) -> fmt::Result {
         let label = label(self.statement).unwrap_or(&[]);
-        let found = self
-            .program()
-            .and_then(|program| program.line_of_label(label));
-        match (self.program(), found) {
-            (Some(program), Some(line)) => {
-                write!(
-                    f,
-                    "the label {} is in {program} already, in line {line}",
-                    Quoted(label)
-                )
-            }
-            _ => write!(f, "{}", self.reason),
+        match program.line_of_label(label) {
+            Some(line) => write!(
+                f,
+                "the label {} is in {program} already, in line {line}",
+                Quoted(label)
+            ),
+            None => fmt::Display::fmt(&self.reason, f),
         }
     }
 
     /// Says why a program is none.
-    pub(crate) fn tell_no_program<W: fmt::Write>(
+    fn tell_no_program<W: fmt::Write>(
         &self,
         f: &mut fmt::Formatter<W>,
+        program: SourceProgram<'_>,
         fault: ProgramFault,
     ) -> fmt::Result {
-        let Some(program) = self.program() else {
-            return write!(f, "{}", self.reason);
-        };
         match fault {
             ProgramFault::Empty => write!(
                 f,
                 "{program} has no instruction: the last one is commit or abort"
             ),
-            ProgramFault::Target(at) => {
-                let last = program.count().saturating_sub(1);
-                write!(
-                    f,
-                    "the target of instruction {at} of {program} is outside it: its instructions are 0 to {last}"
-                )
-            }
-            ProgramFault::NoEnd => {
-                write!(
-                    f,
-                    "{program} does not end with commit or abort: put one below its last instruction"
-                )
-            }
-            _ => write!(f, "{}", self.reason),
+            ProgramFault::Target(at) => tell_stray_target(f, program, at),
+            ProgramFault::NoEnd => write!(
+                f,
+                "{program} does not end with commit or abort: put one below its last instruction"
+            ),
+            _ => fmt::Display::fmt(&self.reason, f),
         }
     }
+}
+
+/// Says which label a program lacks, and which one was meant.
+fn tell_missing_label<W: fmt::Write>(
+    f: &mut fmt::Formatter<W>,
+    program: SourceProgram<'_>,
+    name: &[u8],
+) -> fmt::Result {
+    write!(f, "the label {} is not defined in {program}", Quoted(name))?;
+    match program.meant_label(name) {
+        Some(label) => write!(f, ": did you mean {}", Quoted(label)),
+        None => Ok(()),
+    }
+}
+
+/// Says that the target of the instruction at this place of a program is outside it.
+fn tell_stray_target<W: fmt::Write>(
+    f: &mut fmt::Formatter<W>,
+    program: SourceProgram<'_>,
+    at: u8,
+) -> fmt::Result {
+    let last = program.count().saturating_sub(1);
+    write!(
+        f,
+        "the target of instruction {at} of {program} is outside it: its instructions are 0 to {last}"
+    )
 }

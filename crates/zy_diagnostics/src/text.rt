@@ -29,7 +29,7 @@ pub struct TextAdvice<'a> {
 }
 
 /// A place of a text.
-#[derive(Clone, Copy, Debug, PartialEq, Eq)]
+#[derive(Clone, Copy)]
 pub struct Position {
     /// The number of the line, from 1.
     pub line: usize,
@@ -69,7 +69,7 @@ impl<'a> TextAdvice<'a> {
 impl fmt::Display for TextAdvice<'_> {
     fn fmt<W: fmt::Write>(&self, f: &mut fmt::Formatter<W>) -> fmt::Result {
         if is_image(self.input) {
-            return write!(f, "{}", ForImage(self.command));
+            return fmt::Display::fmt(&ForImage(self.command), f);
         }
         self.tell(f)?;
         match self.place() {
@@ -95,6 +95,11 @@ impl<'a> TextAdvice<'a> {
         self.statement.text(self.culprit())
     }
 
+    /// Says what the reader found, before what to write.
+    pub(crate) fn tell_reason<W: fmt::Write>(&self, f: &mut fmt::Formatter<W>) -> fmt::Result {
+        write!(f, "{}: ", self.reason)
+    }
+
     /// Says what is wrong, and what to write.
     fn tell<W: fmt::Write>(&self, f: &mut fmt::Formatter<W>) -> fmt::Result {
         if self.is_unended() {
@@ -103,15 +108,7 @@ impl<'a> TextAdvice<'a> {
         match self.reason {
             Reason::NotTheHeader => self.tell_header(f),
             Reason::NotText => self.tell_not_text(f),
-            Reason::NotKnown(_) => write!(
-                f,
-                "{}",
-                Unknown {
-                    statement: self.statement,
-                    at: self.culprit(),
-                    above: self.above
-                }
-            ),
+            Reason::NotKnown(_) => self.tell_not_known(f),
             Reason::NotAName(_) => self.tell_no_name(f),
             Reason::NotAnInstr(_) => self.tell_no_instruction(f),
             Reason::WordCount => self.tell_count(f),
@@ -123,26 +120,29 @@ impl<'a> TextAdvice<'a> {
         }
     }
 
+    /// Says what is wrong with a word that is not known.
+    fn tell_not_known<W: fmt::Write>(&self, f: &mut fmt::Formatter<W>) -> fmt::Result {
+        let unknown = Unknown {
+            statement: self.statement,
+            at: self.culprit(),
+            above: self.above,
+        };
+        unknown.tell(f)
+    }
+
     /// Says what is wrong with a line that is well formed by itself.
     fn tell_of_others<W: fmt::Write>(&self, f: &mut fmt::Formatter<W>) -> fmt::Result {
         match self.reason {
             Reason::NotAbove { key, last } => tell_not_above(f, key, last),
-            Reason::NoTransaction { number, .. } => {
-                write!(f, "there is no transaction {number}: ")?;
-                self.tell_programs(f)
-            }
+            Reason::NoTransaction { number, .. } => self.tell_no_transaction(f, number),
             Reason::NoName(_) => self.tell_no_program_of_name(f),
             Reason::NotOwnNumber { own, .. } => write!(f, "{}: txn {own}", self.reason),
             Reason::NameTwice(_) => self.tell_name_twice(f),
-            Reason::NoLabel(_) => self.tell_no_label(f),
-            Reason::LabelTwice(_) => self.tell_label_twice(f),
-            Reason::NoProgram { fault, .. } => self.tell_no_program(f, fault),
             Reason::PageCount { .. } => self.tell_page_count(f),
-            Reason::InstrCount => match self.program() {
-                Some(program) => write!(f, "{}, and {program} has them already", self.reason),
-                None => write!(f, "{}", self.reason),
+            _ => match self.program() {
+                Some(program) => self.tell_of_program(f, program),
+                None => fmt::Display::fmt(&self.reason, f),
             },
-            _ => write!(f, "{}", self.reason),
         }
     }
 
@@ -156,7 +156,7 @@ impl<'a> TextAdvice<'a> {
             Reason::NotText => self.wrong_byte(),
             Reason::NoLabel(_) => {
                 let (line, _) = self.program()?.missing_label()?;
-                MarkedWord::word_elsewhere(line, operation_at(line.statement()).saturating_add(3))
+                target_of(line)
             }
             Reason::NoProgram { fault, .. } => self.place_in_program(fault),
             _ => MarkedWord::word(self.line, self.culprit()),
@@ -178,10 +178,7 @@ impl<'a> TextAdvice<'a> {
     fn place_in_program(&self, fault: ProgramFault) -> Option<MarkedWord<'a>> {
         let program = self.program()?;
         match fault {
-            ProgramFault::Target(at) => {
-                let line = program.instruction(usize::from(at))?;
-                MarkedWord::word_elsewhere(line, operation_at(line.statement()).saturating_add(3))
-            }
+            ProgramFault::Target(at) => target_of(program.instruction(usize::from(at))?),
             ProgramFault::NoEnd => {
                 let line = program.instruction(program.count().saturating_sub(1))?;
                 MarkedWord::word_elsewhere(line, operation_at(line.statement()))
@@ -189,4 +186,9 @@ impl<'a> TextAdvice<'a> {
             _ => MarkedWord::word_elsewhere(SourceLine::of(self.input, program.line), 0),
         }
     }
+}
+
+/// The target of the jump that a line has.
+fn target_of(line: SourceLine<'_>) -> Option<MarkedWord<'_>> {
+    MarkedWord::word_elsewhere(line, operation_at(line.statement()).saturating_add(3))
 }

@@ -4,8 +4,9 @@ use crate::above::{Above, TextPart};
 use crate::bytes::{Bytes, Quoted};
 use crate::form::{Form, Shape, is_plain_of_node};
 use crate::line::Statement;
-use crate::meant::Meant;
+use crate::meant::{Meant, tell_meant};
 use crate::negative::Negative;
+use crate::wording::tell_commas;
 use std::fmt;
 use zy_isa::Version;
 use zy_text::names::is;
@@ -39,17 +40,15 @@ pub struct Unknown<'a> {
     pub above: Above,
 }
 
-/// What is wrong, and what to write.
-impl fmt::Display for Unknown<'_> {
-    fn fmt<W: fmt::Write>(&self, f: &mut fmt::Formatter<W>) -> fmt::Result {
+impl<'a> Unknown<'a> {
+    /// Says what is wrong, and what to write.
+    pub fn tell<W: fmt::Write>(&self, f: &mut fmt::Formatter<W>) -> fmt::Result {
         match Form::of(self.above.version, self.statement) {
             Some(form) => self.tell_behind(f, form),
             None => self.tell_first(f),
         }
     }
-}
 
-impl<'a> Unknown<'a> {
     /// The word.
     fn word(&self) -> &'a [u8] {
         self.statement.text(self.at)
@@ -57,46 +56,51 @@ impl<'a> Unknown<'a> {
 
     /// Says what may follow a known word.
     fn tell_behind<W: fmt::Write>(&self, f: &mut fmt::Formatter<W>, form: Form<'a>) -> fmt::Result {
-        let word = Quoted(self.word());
         match form.shape {
-            Shape::OnTxn | Shape::Plain => {
-                write!(
-                    f,
-                    "behind a choice comes x N or nothing, and not {word}: {}",
-                    form.pattern()
-                )
-            }
-            Shape::Client => {
-                write!(f, "C has no action {word}")?;
-                tell_action_of_client(f, self.word())
-            }
+            Shape::OnTxn | Shape::Plain => write!(
+                f,
+                "behind a choice comes x N or nothing, and not {}: {}",
+                Quoted(self.word()),
+                form.pattern()
+            ),
+            Shape::Client => tell_action_of_client(f, self.word()),
             Shape::Node => {
-                let actor = self.statement.text(0);
-                write!(f, "{} has no action {word}", Bytes(actor))?;
+                tell_no_action(f, self.statement.text(0), self.word())?;
                 tell_action_of_node(f, self.word(), form)
             }
-            _ => {
-                write!(f, "a register r0 to r7 is expected here, not {word}: ")?;
-                self.tell_register(f, form)
-            }
+            _ => self.tell_no_register(f, form),
         }
     }
 
     /// Says what to write in place of a word that is no register.
-    fn tell_register<W: fmt::Write>(
+    fn tell_no_register<W: fmt::Write>(
         &self,
         f: &mut fmt::Formatter<W>,
         form: Form<'a>,
     ) -> fmt::Result {
         let word = self.word();
-        if let [b'R', number @ b'0'..=b'7'] = word {
-            return write!(f, "write it in small letters, r{}", char::from(*number));
+        write!(
+            f,
+            "a register r0 to r7 is expected here, not {}: ",
+            Quoted(word)
+        )?;
+        match word {
+            [b'R', number @ b'0'..=b'7'] => {
+                write!(f, "write it in small letters, r{}", char::from(*number))
+            }
+            _ => self.tell_registers(f, form),
         }
-        if word.contains(&b',') {
-            f.write_str("words have spaces between them, and no comma: ")?;
-        }
-        write!(f, "{}", form.pattern())?;
-        match Negative::of(word) {
+    }
+
+    /// Says how a statement is written that has registers.
+    fn tell_registers<W: fmt::Write>(
+        &self,
+        f: &mut fmt::Formatter<W>,
+        form: Form<'a>,
+    ) -> fmt::Result {
+        tell_commas(f, self.word())?;
+        fmt::Display::fmt(&form.pattern(), f)?;
+        match Negative::of(self.word()) {
             Some(negative) if form.has_value_at(self.at) => {
                 write!(f, ", with {negative}, in a register")
             }
@@ -108,36 +112,66 @@ impl<'a> Unknown<'a> {
     fn tell_first<W: fmt::Write>(&self, f: &mut fmt::Formatter<W>) -> fmt::Result {
         let word = self.word();
         write!(f, "the word {} is not known here: ", Quoted(word))?;
-        if begins_other_comment(word) {
-            return f.write_str("a comment begins with ;");
-        }
-        if is(word, b"sum") {
-            return f.write_str("sum is an instruction of version 2, which begins with zephyr 2");
-        }
         if is(word, b"sub") {
-            return tell_subtraction(f, self.statement.last());
+            tell_subtraction(f, self.statement.last())
+        } else if is(word, b"li") {
+            tell_load(f, self.statement)
+        } else if is_action(word) {
+            tell_actor(f, word)
+        } else {
+            self.tell_beginning(f, word)
         }
-        if is(word, b"li") {
-            return tell_load(f, self.statement);
-        }
-        if is(word, b"a") || is(word, b"b") || is(word, b"c") {
-            return f.write_str("the actors are A, B and C, in capital letters");
-        }
-        if is_of_client(word) {
-            return write!(f, "a choice begins with its actor, C {}", Bytes(word));
-        }
-        if is_of_node(word) {
-            let word = Bytes(word);
-            return write!(f, "a choice begins with its actor, A {word} or B {word}");
-        }
-        if is_action(self.statement.text(1)) {
-            return f.write_str("the actors are A, B and C");
+    }
+
+    /// Says what may begin a line in place of a word that is no action.
+    fn tell_beginning<W: fmt::Write>(&self, f: &mut fmt::Formatter<W>, word: &[u8]) -> fmt::Result {
+        if let Some(told) = advice_for(word, self.statement.text(1)) {
+            return f.write_str(told);
         }
         match MeantHere::of(self.above.version, word, &STATEMENTS) {
-            Some(meant) => write!(f, "{meant}"),
+            Some(meant) => fmt::Display::fmt(&meant, f),
             None => tell_statements(f, self.above),
         }
     }
+}
+
+/// What to say of a word with which a line begins, and the next one, where that is the same in each text.
+fn advice_for(word: &[u8], next: &[u8]) -> Option<&'static str> {
+    if begins_other_comment(word) {
+        Some("a comment begins with ;")
+    } else if is(word, b"sum") {
+        Some("sum is an instruction of version 2, which begins with zephyr 2")
+    } else if is(word, b"a") || is(word, b"b") || is(word, b"c") {
+        Some("the actors are A, B and C, in capital letters")
+    } else if is_action(next) {
+        Some("the actors are A, B and C")
+    } else {
+        None
+    }
+}
+
+/// Says whose action a line begins with.
+fn tell_actor<W: fmt::Write>(f: &mut fmt::Formatter<W>, action: &[u8]) -> fmt::Result {
+    f.write_str("a choice begins with its actor, ")?;
+    if is_of_client(action) {
+        write!(f, "C {}", Bytes(action))
+    } else {
+        tell_nodes(f, Bytes(action))
+    }
+}
+
+/// Says that an action is one of both nodes.
+fn tell_nodes<W: fmt::Write>(f: &mut fmt::Formatter<W>, action: Bytes<'_>) -> fmt::Result {
+    write!(f, "A {action} or B {action}")
+}
+
+/// Says that an actor has no such action.
+fn tell_no_action<W: fmt::Write>(
+    f: &mut fmt::Formatter<W>,
+    actor: &[u8],
+    action: &[u8],
+) -> fmt::Result {
+    write!(f, "{} has no action {}", Bytes(actor), Quoted(action))
 }
 
 /// What a word was meant to be in a text of a version.
@@ -167,11 +201,12 @@ impl MeantHere {
 
 impl fmt::Display for MeantHere {
     fn fmt<W: fmt::Write>(&self, f: &mut fmt::Formatter<W>) -> fmt::Result {
-        write!(f, "{}", self.meant)?;
+        fmt::Display::fmt(&self.meant, f)?;
         if self.is_early {
-            f.write_str(", an instruction of version 2, which begins with zephyr 2")?;
+            f.write_str(", an instruction of version 2, which begins with zephyr 2")
+        } else {
+            Ok(())
         }
-        Ok(())
     }
 }
 
@@ -215,18 +250,21 @@ fn is_of_client(word: &[u8]) -> bool {
     is(word, b"start") || is(word, b"begin") || is(word, b"kill")
 }
 
-/// Says what the client can do in the place of this.
+/// Says that the client cannot do this, and what it can do instead.
 fn tell_action_of_client<W: fmt::Write>(f: &mut fmt::Formatter<W>, action: &[u8]) -> fmt::Result {
+    tell_no_action(f, b"C", action)?;
     if is(action, b"run") {
-        return f.write_str(", which is a node's: A run T or B run T");
-    }
-    if is_plain_of_node(action) {
-        let action = Bytes(action);
-        return write!(f, ", which is a node's: A {action} or B {action}");
-    }
-    match Meant::of(action, &OF_CLIENT) {
-        Some(meant) => write!(f, ": {meant}"),
-        None => f.write_str(": C start, C begin T or C kill T"),
+        f.write_str(", which is a node's: A run T or B run T")
+    } else if is_plain_of_node(action) {
+        f.write_str(", which is a node's: ")?;
+        tell_nodes(f, Bytes(action))
+    } else {
+        f.write_str(": ")?;
+        tell_meant(
+            f,
+            Meant::of(action, &OF_CLIENT),
+            "C start, C begin T or C kill T",
+        )
     }
 }
 
@@ -240,9 +278,10 @@ fn tell_action_of_node<W: fmt::Write>(
         let behind = if is(action, b"start") { "" } else { " T" };
         return write!(f, ", which is the client's: C {}{behind}", Bytes(action));
     }
+    f.write_str(": ")?;
     match Meant::of(action, &OF_NODE) {
-        Some(meant) => write!(f, ": {meant}"),
-        None => write!(f, ": {}", form.pattern()),
+        Some(meant) => fmt::Display::fmt(&meant, f),
+        None => fmt::Display::fmt(&form.pattern(), f),
     }
 }
 

@@ -3,15 +3,15 @@
 use crate::above::TextPart;
 use crate::bytes::{Bytes, Quoted};
 use crate::form::{Form, Shape};
-use crate::header::head_pattern;
+use crate::head::Head;
 use crate::negative::Negative;
+use crate::number::{is_number, number_behind};
 use crate::text::TextAdvice;
 use crate::unknown::{
     INSTRUCTIONS, MeantHere, begins_other_comment, tell_instructions, tell_subtraction,
 };
 use std::fmt;
-use zy_text::names::{is, is_name, is_numeral, label_of};
-use zy_text::numbers::number_of;
+use zy_text::names::{is, is_name, label_of};
 
 /// The most bytes of a name.
 const MAX_NAME: usize = 32;
@@ -19,19 +19,21 @@ const MAX_NAME: usize = 32;
 impl TextAdvice<'_> {
     /// Says what to write in place of a word that is no name.
     pub(crate) fn tell_no_name<W: fmt::Write>(&self, f: &mut fmt::Formatter<W>) -> fmt::Result {
-        let word = self.word();
         match self.form() {
-            Some(form) if form.shape == Shape::Jump && self.culprit() > form.at => tell_target(
-                f, word,
-            ),
-            _ => {
-                write!(f, "{}", self.reason)?;
-                let name = label_of(word).unwrap_or(word);
-                if name.len() > MAX_NAME {
-                    write!(f, ": this one has {}", name.len())?;
-                }
-                Ok(())
+            Some(form) if form.shape == Shape::Jump && self.culprit() > form.at => {
+                tell_target(f, self.word())
             }
+            _ => self.tell_bad_name(f, self.word()),
+        }
+    }
+
+    /// Says what a name is, and how long this one is if that is too long.
+    fn tell_bad_name<W: fmt::Write>(&self, f: &mut fmt::Formatter<W>, word: &[u8]) -> fmt::Result {
+        let length = label_of(word).unwrap_or(word).len();
+        if length > MAX_NAME {
+            write!(f, "{}: this one has {length}", self.reason)
+        } else {
+            fmt::Display::fmt(&self.reason, f)
         }
     }
 
@@ -41,68 +43,76 @@ impl TextAdvice<'_> {
         f: &mut fmt::Formatter<W>,
     ) -> fmt::Result {
         let word = self.word();
-        write!(f, "{}: ", self.reason)?;
+        self.tell_reason(f)?;
         if is(word, b"sum") {
-            return f.write_str("sum is one of version 2, which begins with zephyr 2");
+            f.write_str("sum is one of version 2, which begins with zephyr 2")
+        } else if is(word, b"sub") {
+            tell_subtraction(f, self.statement.last())
+        } else {
+            self.tell_instruction_for(f, word)
         }
-        if is(word, b"sub") {
-            return tell_subtraction(f, self.statement.last());
-        }
-        if let Some(meant) = MeantHere::of(self.above.version, word, &INSTRUCTIONS) {
-            return write!(f, "{meant}");
-        }
-        match label_of(word) {
-            Some(_) => f.write_str("a line has one label"),
+    }
+
+    /// Says which instruction a word was meant to be, or which there are.
+    fn tell_instruction_for<W: fmt::Write>(
+        &self,
+        f: &mut fmt::Formatter<W>,
+        word: &[u8],
+    ) -> fmt::Result {
+        match MeantHere::of(self.above.version, word, &INSTRUCTIONS) {
+            Some(meant) => fmt::Display::fmt(&meant, f),
+            None if label_of(word).is_some() => f.write_str("a line has one label"),
             None => tell_instructions(f, self.above),
         }
     }
 
     /// Says how a statement is written that has too few words or too many.
     pub(crate) fn tell_count<W: fmt::Write>(&self, f: &mut fmt::Formatter<W>) -> fmt::Result {
-        let word = self.word();
-        let Some(form) = self.form() else {
-            return write!(f, "{}", self.reason);
-        };
-        if begins_other_comment(word) {
-            return f.write_str("a comment begins with ;");
+        match self.form() {
+            Some(_) if begins_other_comment(self.word()) => f.write_str("a comment begins with ;"),
+            Some(form) if form.is_choice() && self.culprit() >= form.words() => {
+                self.tell_times(f, form)
+            }
+            Some(form) => {
+                tell_commas(f, self.statement.bytes)?;
+                fmt::Display::fmt(&form, f)
+            }
+            None => fmt::Display::fmt(&self.reason, f),
         }
-        if form.is_choice() && self.culprit() >= form.words() {
-            return self.tell_times(f, form);
-        }
-        if self.statement.bytes.contains(&b',') {
-            f.write_str("words have spaces between them, and no comma: ")?;
-        }
-        write!(f, "{form}")
     }
 
     /// Says what may follow a choice.
     fn tell_times<W: fmt::Write>(&self, f: &mut fmt::Formatter<W>, form: Form<'_>) -> fmt::Result {
         let word = self.word();
-        if let Some(number) = times_of(word) {
+        if let Some(number) = number_behind(word, b"x") {
             write!(
                 f,
                 "behind a choice comes x {}, with a space between",
                 Bytes(number)
             )
         } else if is(word, b"x") {
-            write!(f, "behind x comes how often: {}", form.pattern())
+            form.tell(f, "behind x comes how often")
         } else if self.culprit() > form.words() {
-            write!(f, "nothing comes behind x N: {}", form.pattern())
+            form.tell(f, "nothing comes behind x N")
         } else {
-            write!(f, "{form}")
+            fmt::Display::fmt(&form, f)
         }
     }
 
     /// Says how a statement is written that has no number where one is due, or one out of its range.
     pub(crate) fn tell_number<W: fmt::Write>(&self, f: &mut fmt::Formatter<W>) -> fmt::Result {
-        write!(f, "{}: ", self.reason)?;
-        if let TextPart::Header(count) = self.above.part() {
-            return f.write_str(head_pattern(TextPart::Header(count)));
+        let part = self.above.part();
+        self.tell_reason(f)?;
+        match (part, self.form()) {
+            (TextPart::Header(_), _) => f.write_str(Head::of(part).pattern),
+            (_, Some(form)) => self.tell_value(f, form),
+            (_, None) => Ok(()),
         }
-        let Some(form) = self.form() else {
-            return Ok(());
-        };
-        write!(f, "{}", form.pattern())?;
+    }
+
+    /// Says how a statement is written in which a value is wrong.
+    fn tell_value<W: fmt::Write>(&self, f: &mut fmt::Formatter<W>, form: Form<'_>) -> fmt::Result {
+        fmt::Display::fmt(&form.pattern(), f)?;
         match Negative::of(self.word()) {
             Some(negative) if form.has_value_at(self.culprit()) => {
                 write!(f, ", here {negative}")
@@ -112,33 +122,33 @@ impl TextAdvice<'_> {
     }
 }
 
-/// Says what a target is, in the place of a word that is none.
-fn tell_target<W: fmt::Write>(f: &mut fmt::Formatter<W>, word: &[u8]) -> fmt::Result {
-    if is_numeral(word) && number_of(word).is_some() {
-        return write!(
-            f,
-            "a target is a label or @{}, and not {}",
-            Bytes(word),
-            Quoted(word)
-        );
-    }
-    match label_of(word) {
-        Some(name) if is_name(name) => write!(
-            f,
-            "a target is a label without its colon, {}, and not {}",
-            Bytes(name),
-            Quoted(word)
-        ),
-        _ => write!(f, "a target is a label or @N, and not {}", Quoted(word)),
+/// Says that no comma is between words, where some bytes have one.
+pub fn tell_commas<W: fmt::Write>(f: &mut fmt::Formatter<W>, bytes: &[u8]) -> fmt::Result {
+    if bytes.contains(&b',') {
+        f.write_str("words have spaces between them, and no comma: ")
+    } else {
+        Ok(())
     }
 }
 
-/// The number behind the `x` that a word begins with.
-fn times_of(word: &[u8]) -> Option<&[u8]> {
-    let number = word.strip_prefix(b"x")?;
-    if is_numeral(number) && number_of(number).is_some() {
-        Some(number)
-    } else {
-        None
+/// Says what a target is, in the place of a word that is none.
+fn tell_target<W: fmt::Write>(f: &mut fmt::Formatter<W>, word: &[u8]) -> fmt::Result {
+    let (target, name) = target_for(word);
+    write!(
+        f,
+        "a target is {target}{}, and not {}",
+        Bytes(name),
+        Quoted(word)
+    )
+}
+
+/// What a target is that is written in the place of a word: what comes before its name, and the name.
+fn target_for(word: &[u8]) -> (&'static str, &[u8]) {
+    if is_number(word) {
+        return ("a label or @", word);
+    }
+    match label_of(word) {
+        Some(name) if is_name(name) => ("a label without its colon, ", name),
+        _ => ("a label or @", b"N"),
     }
 }
