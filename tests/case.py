@@ -70,22 +70,23 @@ class Case:
     def input(self):
         return self.text_given + b'\n' * (self.pad - len(self.text_given))
 
-    def run(self, more=None, **how):
-        """The status, the output (None where it went elsewhere) and standard error of a run. What `more` has goes into the
-        environment; the rest is for subprocess.run, the input too."""
+    def run(self, more=None, command=None, **how):
+        """The status, the output (None where it went elsewhere) and standard error of a run, or of another command's. What `more`
+        has goes into the environment; the rest is for subprocess.run, the input too."""
+        command = command or [PROGRAM] + self.words
         how.update(stderr=subprocess.PIPE, timeout=60, env={**os.environ, **(more or {})})
         if self.to == 'closed':
-            done = subprocess.run([PROGRAM] + self.words, preexec_fn=lambda: os.close(1), **how)
+            done = subprocess.run(command, preexec_fn=lambda: os.close(1), **how)
         elif self.to == 'unread':
             unread, place = os.pipe()
             os.close(unread)
-            done = subprocess.run([PROGRAM] + self.words, stdout=place, **how)
+            done = subprocess.run(command, stdout=place, **how)
             os.close(place)
         elif self.to:
             with open(self.to, 'wb') as place:
-                done = subprocess.run([PROGRAM] + self.words, stdout=place, **how)
+                done = subprocess.run(command, stdout=place, **how)
         else:
-            done = subprocess.run([PROGRAM] + self.words, stdout=subprocess.PIPE, **how)
+            done = subprocess.run(command, stdout=subprocess.PIPE, **how)
         return done.returncode, done.stdout, done.stderr
 
 

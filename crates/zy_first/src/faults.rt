@@ -1,10 +1,9 @@
 //! Why there is no listing.
 
-use std::fmt;
 use zy_asm::{AsmKind, LineFault};
 use zy_io::{ReadFault, TextFault};
 
-/// Why there is no listing. Names, words and statuses are those of `zy_engine::BenchFault`.
+/// Why there is no listing. Names and statuses are those of `zy_engine::BenchFault`.
 #[derive(Clone, Copy)]
 pub enum RunFault {
     /// The scenario text is rejected, from this line on.
@@ -58,28 +57,4 @@ impl From<TextFault> for RunFault {
             TextFault::Memory => RunFault::Memory,
         }
     }
-}
-
-/// The fault's name, and what is wrong.
-impl fmt::Display for RunFault {
-    fn fmt<W: fmt::Write>(&self, f: &mut fmt::Formatter<W>) -> fmt::Result {
-        match self {
-            RunFault::Input(refusal) => write_refusal(f, refusal),
-            RunFault::TooLong => f.write_str("TooLong: an input has at most 4194304 bytes"),
-            RunFault::Read => f.write_str("Read: the input could not be read to its end"),
-            RunFault::Write => f.write_str("Write: the output could not be written"),
-            RunFault::Memory => f.write_str("Memory: there is not enough memory for this run"),
-        }
-    }
-}
-
-/// Writes why a text is rejected.
-fn write_refusal<W: fmt::Write>(f: &mut fmt::Formatter<W>, refusal: &LineFault) -> fmt::Result {
-    let reason = refusal.reason;
-    write!(
-        f,
-        "Input(line {}, {:?}): {reason}",
-        refusal.line,
-        reason.kind()
-    )
 }
