@@ -1,7 +1,7 @@
 //! Calls that are out of memory once, and what is found then.
 ghost use Rattle.std.specs.Prelude.{◌≡◌, IfOk, Ok};
 
-use crate::digest::Digest;
+use crate::digest::{Digest, Digested, digest_of_last};
 use std::alloc::AllocError;
 use zy_asm::{AsmKind, LineFault};
 use zy_debug::DebugFault;
@@ -126,6 +126,16 @@ pub fn tested<T: Drop, F: Fault + Drop>(answer: Result<T, F>) -> Result<T, Refus
     }
 }
 
+/// The digest of the answer of the call under test, which nothing else needs.
+pub fn tested_digest<T: Digested + Drop, F: Fault + Drop>(
+    answer: Result<T, F>,
+) -> Result<u64, Refused> {
+    match tested(answer) {
+        Ok(value) => Ok(digest_of_last(value)),
+        Err(refused) => Err(refused),
+    }
+}
+
 /// The answer of a call that only prepares the one under test, or looks at its answer.
 pub fn prepared<T: Drop, F: Fault + Drop>(answer: Result<T, F>) -> Result<T, Refused>
     ensures { IfOk result (λ value. answer ≡ Ok value) }
@@ -142,6 +152,17 @@ pub fn ended<T: Drop, F: Drop>(answer: Result<T, F>) -> Result<(), F> {
     match answer {
         Ok(_) => Ok(()),
         Err(fault) => Err(fault),
+    }
+}
+
+/// A value that is made, where all that makes it ended well.
+pub fn kept<T: Drop>(value: T, outcome: Result<(), Refused>) -> Result<T, Refused> {
+    match outcome {
+        Ok(()) => Ok(value),
+        Err(refused) => {
+            drop(value);
+            Err(refused)
+        }
     }
 }
 
@@ -213,8 +234,16 @@ pub fn answered(answers: Answers, again: bool) -> Findings {
     }
 }
 
+/// What is found of all calls, which nothing else needs.
+pub fn sweep<C: Calls + Drop>(calls: C) -> Findings {
+    let mut calls = calls;
+    let found = sweep_in_order(&mut calls);
+    drop(calls);
+    found
+}
+
 /// What is found of all calls, made in order.
-pub fn sweep<C: Calls>(calls: &mut C) -> Findings {
+fn sweep_in_order<C: Calls>(calls: &mut C) -> Findings {
     let mut digest = Digest::new();
     let mut again = false;
     for place in 0..calls.len() {

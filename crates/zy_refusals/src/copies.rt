@@ -1,7 +1,7 @@
 //! Copies.
 
 use crate::calls::{Calls, Findings, Refused, prepared, sweep, tested};
-use crate::digest::{Digested, digest_of};
+use crate::digest::{Digested, digest_of, digest_of_last};
 use crate::growths::{book, link, locks, row_list, txn, wire};
 use crate::machines::machine;
 use crate::scenarios::scenario;
@@ -66,11 +66,12 @@ impl Copied for Link {
 impl Copied for Txn {
     fn copied(&self, alloc: Global) -> Result<Txn, Refused> {
         let mut copies = prepared(Vec::with_capacity(alloc, 1))?;
-        tested(self.push_copy(alloc, &mut copies))?;
-        match copies.pop() {
-            Some(copy) => Ok(copy),
-            None => Err(Refused::Different),
-        }
+        let copy = match tested(self.push_copy(alloc, &mut copies)) {
+            Ok(()) => copies.pop().ok_or(Refused::Different),
+            Err(refused) => Err(refused),
+        };
+        drop(copies);
+        copy
     }
 }
 
@@ -95,12 +96,12 @@ struct Copying<T> {
 
 impl<T: Copied> Calls for Copying<T> {
     fn call(&mut self, _place: usize) -> Result<u64, Refused> {
-        let copy = self.value.copied(self.alloc)?;
-        let digest = digest_of(&copy);
-        if digest != digest_of(&self.value) {
-            return Err(Refused::Different);
+        let digest = digest_of_last(self.value.copied(self.alloc)?);
+        if digest == digest_of(&self.value) {
+            Ok(digest)
+        } else {
+            Err(Refused::Different)
         }
-        Ok(digest)
     }
 
     fn shown(&self) -> u64 {
@@ -111,16 +112,18 @@ impl<T: Copied> Calls for Copying<T> {
 /// The copy of a value, where it is there.
 fn sweep_copy<T: Copied>(alloc: Global, value: Result<T, Refused>) -> Result<Findings, Refused> {
     let value = value?;
-    Ok(sweep(&mut Copying { alloc, value }))
+    Ok(sweep(Copying { alloc, value }))
 }
 
 /// The first program of a text.
 fn program(alloc: Global, input: &[u8]) -> Result<Program, Refused> {
     let scenario = scenario(alloc, input)?;
-    match scenario.programs().first() {
+    let program = match scenario.programs().first() {
         Some(program) => prepared(program.copy(alloc)),
         None => Err(Refused::Fault),
-    }
+    };
+    drop(scenario);
+    program
 }
 
 /// A message that brings a wireframe.

@@ -86,11 +86,24 @@ pub fn digest_of<T: Digested>(value: &T) -> u64 {
     digest.value()
 }
 
+/// The digest of a value that nothing else needs.
+pub fn digest_of_last<T: Digested + Drop>(value: T) -> u64 {
+    let digest = digest_of(&value);
+    drop(value);
+    digest
+}
+
 /// The digest of bytes alone.
 pub fn digest_of_bytes(bytes: &[u8]) -> u64 {
     let mut digest = Digest::new();
     digest.bytes(bytes);
     digest.value()
+}
+
+impl Digested for Vec<u8> {
+    fn put_into(&self, digest: &mut Digest) {
+        digest.bytes(self.as_slice());
+    }
 }
 
 impl Digested for Program {

@@ -1,17 +1,15 @@
 //! The engines, over bytes in memory.
 ghost use Rattle.std.specs.Prelude.{◌<◌};
 
-use crate::calls::{Calls, Findings, Refused, ended, prepared, sweep, tested};
-use crate::scenarios::scenario;
-use crate::texts::{Prefix, room};
+use crate::calls::{Calls, Findings, Refused, ended, sweep, tested};
+use crate::scenarios::image;
+use crate::texts::{Prefix, listing, room};
 use std::alloc::Global;
 use zy_engine::checking::check_bytes;
 use zy_engine::debugging::debug_bytes;
 use zy_engine::engine::{convert_bytes, run_bytes};
 use zy_engine::{Format, RunFormat, SourceFormat, Wording};
-use zy_image::save::save;
 use zy_io::{SliceSource, VecSink};
-use zy_listing::run::write_run;
 use zy_ordering::ordering::order_bytes;
 use zy_ordering::{LogFormat, OrderOptions, Watch};
 
@@ -67,32 +65,47 @@ fn work(
     requires { sink.old.1 < u64.MAX }
 {
     let mut input = Vec::new(alloc);
+    let outcome = work_over(alloc, engine, source, sink, &mut input);
+    drop(input);
+    outcome
+}
+
+/// Lets an engine work, which leaves in `input` what it reads.
+fn work_over(
+    alloc: Global,
+    engine: Engine,
+    source: &mut SliceSource<'_>,
+    sink: &mut VecSink,
+    input: &mut Vec<u8>,
+) -> Result<(), Refused>
+    requires { sink.old.1 < u64.MAX }
+{
     match engine {
-        Engine::Run(format, shown) => tested(ended(run_bytes(
-            alloc, format, shown, source, sink, &mut input,
-        ))),
-        Engine::Convert(format, output) => tested(convert_bytes(
-            alloc, format, output, source, sink, &mut input,
-        )),
-        Engine::Check => tested(ended(check_bytes(alloc, source, sink, &mut input))),
-        Engine::Debug => tested(debug_bytes(alloc, 2, 1, source, sink, &mut input)),
-        Engine::Order => tested(ended(order_bytes(
-            alloc,
-            OPTIONS,
-            source,
-            sink,
-            &mut input,
-            &mut Unwatched,
-        ))),
-        Engine::OrderObjects => tested(ended(order_bytes(
-            alloc,
-            OPTIONS_OF_OBJECTS,
-            source,
-            sink,
-            &mut input,
-            &mut Unwatched,
-        ))),
+        Engine::Run(format, shown) => {
+            tested(ended(run_bytes(alloc, format, shown, source, sink, input)))
+        }
+        Engine::Convert(format, output) => {
+            tested(convert_bytes(alloc, format, output, source, sink, input))
+        }
+        Engine::Check => tested(ended(check_bytes(alloc, source, sink, input))),
+        Engine::Debug => tested(debug_bytes(alloc, 2, 1, source, sink, input)),
+        Engine::Order => order(alloc, OPTIONS, source, sink, input),
+        Engine::OrderObjects => order(alloc, OPTIONS_OF_OBJECTS, source, sink, input),
     }
+}
+
+/// Looks for an order.
+fn order(
+    alloc: Global,
+    options: OrderOptions,
+    source: &mut SliceSource<'_>,
+    sink: &mut VecSink,
+    input: &mut Vec<u8>,
+) -> Result<(), Refused>
+    requires { sink.old.1 < u64.MAX }
+{
+    let mut unwatched = Unwatched;
+    tested(ended(order_bytes(alloc, options, source, sink, input, &mut unwatched)))
 }
 
 /// An engine over an input.
@@ -115,7 +128,7 @@ impl Calls for Working<'_> {
 
 fn sweep_engine(alloc: Global, engine: Engine, input: &[u8]) -> Findings {
     let prefix = Prefix::new(VecSink::new(Vec::new(alloc)));
-    sweep(&mut Working {
+    sweep(Working {
         alloc,
         engine,
         input,
@@ -130,15 +143,18 @@ fn sweep_run(alloc: Global, shown: RunFormat, input: &[u8]) -> Findings {
 
 /// The engines that read an image: that of the input.
 fn sweep_image(alloc: Global, engine: Engine, input: &[u8]) -> Result<Findings, Refused> {
-    let image = prepared(save(alloc, &scenario(alloc, input)?))?;
-    Ok(sweep_engine(alloc, engine, image.as_slice()))
+    let image = image(alloc, input)?;
+    let found = sweep_engine(alloc, engine, image.as_slice());
+    drop(image);
+    Ok(found)
 }
 
 /// The engine that reads a listing: that of the input.
 fn sweep_listing(alloc: Global, input: &[u8]) -> Result<Findings, Refused> {
-    let mut listing = VecSink::new(room(alloc)?);
-    prepared(write_run(alloc, scenario(alloc, input)?, &mut listing))?;
-    Ok(sweep_engine(alloc, Engine::Check, listing.bytes()))
+    let listing = listing(alloc, input)?;
+    let found = sweep_engine(alloc, Engine::Check, listing.bytes());
+    drop(listing);
+    Ok(found)
 }
 
 /// The sweep of this name, over a scenario's text, if it is one of these. That of `debug_bytes` has commands below it,

@@ -2,7 +2,7 @@
 ghost use Rattle.std.specs.Prelude.{◌≡◌, true};
 ghost use Rattle.zy_txns.specs.Books.{Countable};
 
-use crate::calls::{Calls, Findings, Refused, prepared, sweep, tested};
+use crate::calls::{Calls, Findings, Refused, kept, prepared, sweep, tested, tested_digest};
 use crate::digest::{Digest, Digested, digest_of};
 use std::alloc::Global;
 use zy_isa::Node;
@@ -192,11 +192,11 @@ impl<T: Growing> Calls for Growth<T> {
 /// A thing once it has grown.
 fn grown_whole<T: Growing + Drop>(value: T) -> Result<T, Refused> {
     let mut value = value;
-    match fill(&mut value) {
-        Ok(()) => Ok(value),
+    let outcome = match fill(&mut value) {
         Err(Refused::Memory) => Err(Refused::Setup),
-        Err(refused) => Err(refused),
-    }
+        outcome => outcome,
+    };
+    kept(value, outcome)
 }
 
 /// Lets it grow.
@@ -225,10 +225,16 @@ pub fn locks(alloc: Global) -> Result<Locks, Refused> {
 /// A link with messages, one of which brings a wireframe.
 pub fn link(alloc: Global) -> Result<Link, Refused> {
     let mut link = grown_whole(Link::new(alloc))?;
+    let outcome = send_wire(alloc, &mut link);
+    kept(link, outcome)
+}
+
+/// Sends a wireframe along a link.
+fn send_wire(alloc: Global, link: &mut Link) -> Result<(), Refused> {
     let wire = wire(alloc)?;
     prepared(link.reserve())?;
     link.send(Message::Wire(wire));
-    Ok(link)
+    Ok(())
 }
 
 /// A transaction that has begun.
@@ -260,7 +266,7 @@ fn plain_book(alloc: Global) -> Result<Book, Refused> {
 }
 
 fn sweep_growth<T: Growing + Drop>(value: T) -> Result<Findings, Refused> {
-    Ok(sweep(&mut Growth { value }))
+    Ok(sweep(Growth { value }))
 }
 
 fn sweep_grow(alloc: Global) -> Result<Findings, Refused> {
@@ -289,8 +295,7 @@ struct NewWire {
 
 impl Calls for NewWire {
     fn call(&mut self, _place: usize) -> Result<u64, Refused> {
-        let wire = tested(Wire::new(self.alloc, 512))?;
-        Ok(digest_of(&wire))
+        tested_digest(Wire::new(self.alloc, 512))
     }
 }
 
@@ -298,7 +303,7 @@ impl Calls for NewWire {
 pub fn sweep_named(name: &str, alloc: Global) -> Option<Result<Findings, Refused>> {
     match name {
         "rows_reserve" => Some(sweep_growth(RowList::new(alloc))),
-        "wire_new" => Some(Ok(sweep(&mut NewWire { alloc }))),
+        "wire_new" => Some(Ok(sweep(NewWire { alloc }))),
         "wire_reserve" => Some(sweep_reserve(alloc)),
         "wire_grow" => Some(sweep_grow(alloc)),
         "locks_reserve" => Some(sweep_locks(alloc)),

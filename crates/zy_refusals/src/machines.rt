@@ -1,6 +1,6 @@
 //! Machines, and the steps that they make.
 
-use crate::calls::{Calls, Findings, Refused, prepared, sweep, tested};
+use crate::calls::{Calls, Findings, Refused, prepared, sweep, tested, tested_digest};
 use crate::digest::{Digest, digest_of};
 use crate::scenarios::scenario;
 use std::alloc::Global;
@@ -11,7 +11,9 @@ use zy_table::Entry;
 /// The choices of a text.
 pub fn choices(alloc: Global, text: &[u8]) -> Result<Vec<Choice>, Refused> {
     let scenario = scenario(alloc, text)?;
-    prepared(scenario.choices().to_vec(alloc))
+    let choices = prepared(scenario.choices().to_vec(alloc));
+    drop(scenario);
+    choices
 }
 
 /// The machine that has made all choices of a text.
@@ -29,8 +31,7 @@ struct Opening {
 impl Calls for Opening {
     fn call(&mut self, _place: usize) -> Result<u64, Refused> {
         let scenario = prepared(self.scenario.copy(self.alloc))?;
-        let machine = tested(Machine::open(self.alloc, scenario))?;
-        Ok(digest_of(&machine))
+        tested_digest(Machine::open(self.alloc, scenario))
     }
 }
 
@@ -44,8 +45,7 @@ struct Running {
 impl Calls for Running {
     fn call(&mut self, _place: usize) -> Result<u64, Refused> {
         let scenario = prepared(self.scenario.copy(self.alloc))?;
-        let machine = tested(Machine::run_all(self.alloc, scenario))?;
-        Ok(digest_of(&machine))
+        tested_digest(Machine::run_all(self.alloc, scenario))
     }
 }
 
@@ -94,8 +94,7 @@ struct Reopening {
 
 impl Calls for Reopening {
     fn call(&mut self, _place: usize) -> Result<u64, Refused> {
-        let machine = tested(self.machine.reopen(self.alloc))?;
-        Ok(digest_of(&machine))
+        tested_digest(self.machine.reopen(self.alloc))
     }
 
     fn shown(&self) -> u64 {
@@ -113,8 +112,7 @@ struct Sharing {
 impl Calls for Sharing {
     fn call(&mut self, _place: usize) -> Result<u64, Refused> {
         let copy = prepared(self.machine.copy(self.alloc))?;
-        let machine = tested(copy.share(self.alloc))?;
-        Ok(digest_of(&machine))
+        tested_digest(copy.share(self.alloc))
     }
 
     fn shown(&self) -> u64 {
@@ -146,21 +144,23 @@ fn shared(alloc: Global, text: &[u8]) -> Result<Machine, Refused> {
 /// A machine at the start of such a history.
 fn reopened(alloc: Global, text: &[u8]) -> Result<Machine, Refused> {
     let shared = shared(alloc, text)?;
-    prepared(shared.reopen(alloc))
+    let reopened = prepared(shared.reopen(alloc));
+    drop(shared);
+    reopened
 }
 
 fn sweep_open(alloc: Global, input: &[u8]) -> Result<Findings, Refused> {
     let scenario = scenario(alloc, input)?;
-    Ok(sweep(&mut Opening { alloc, scenario }))
+    Ok(sweep(Opening { alloc, scenario }))
 }
 
 fn sweep_run_all(alloc: Global, input: &[u8]) -> Result<Findings, Refused> {
     let scenario = scenario(alloc, input)?;
-    Ok(sweep(&mut Running { alloc, scenario }))
+    Ok(sweep(Running { alloc, scenario }))
 }
 
 fn sweep_choices(machine: Machine, choices: Vec<Choice>) -> Findings {
-    sweep(&mut Stepping { machine, choices })
+    sweep(Stepping { machine, choices })
 }
 
 fn sweep_step(alloc: Global, input: &[u8]) -> Result<Findings, Refused> {
@@ -178,12 +178,12 @@ fn sweep_step_apart(alloc: Global, input: &[u8]) -> Result<Findings, Refused> {
 
 fn sweep_reopen(alloc: Global, input: &[u8]) -> Result<Findings, Refused> {
     let machine = shared(alloc, input)?;
-    Ok(sweep(&mut Reopening { alloc, machine }))
+    Ok(sweep(Reopening { alloc, machine }))
 }
 
 fn sweep_share(alloc: Global, input: &[u8]) -> Result<Findings, Refused> {
     let machine = machine(alloc, input)?;
-    Ok(sweep(&mut Sharing { alloc, machine }))
+    Ok(sweep(Sharing { alloc, machine }))
 }
 
 /// The sweep of this name, over a scenario's text, if it is one of these.

@@ -64,7 +64,9 @@ fn sweep<R: Input + AllocGlobal + Threads + Wait + Sync>(
 ) -> Result<Findings, Refused> {
     let mut source = CountingReader::new(rt.reader());
     let input = prepared(read_all(rt.alloc(), &mut source))?;
-    swept(rt, name, rt.alloc(), input.as_slice())
+    let found = swept(rt, name, rt.alloc(), input.as_slice());
+    drop(input);
+    found
 }
 
 /// What is found, and whether the digest is printed too.
@@ -85,9 +87,19 @@ fn words<R: AllocGlobal + Env>(rt: &R) -> Result<Vec<String>, Refused> {
     }
 }
 
-/// Makes the sweep that the first word after the program's name names. A further word asks for its digest.
+/// Does what the words of the command line ask for.
 fn asked<R: Input + AllocGlobal + Env + Threads + Wait + Sync>(rt: &R) -> Result<Report, Refused> {
     let words = words(rt)?;
+    let report = report_on(rt, words.as_slice());
+    drop(words);
+    report
+}
+
+/// Makes the sweep that the first word after the program's name names. A further word asks for its digest.
+fn report_on<R: Input + AllocGlobal + Threads + Wait + Sync>(
+    rt: &R,
+    words: &[String],
+) -> Result<Report, Refused> {
     let Some(name) = words.get(1) else {
         return Err(Refused::Fault);
     };

@@ -1,7 +1,7 @@
 //! Scenarios, programs, texts and images.
 
-use crate::calls::{Calls, Findings, Refused, prepared, sweep, tested};
-use crate::digest::{digest_of, digest_of_bytes};
+use crate::calls::{Calls, Findings, Refused, prepared, sweep, tested_digest};
+use crate::digest::digest_of;
 use std::alloc::Global;
 use zy_asm::assembling::assemble_bytes;
 use zy_image::load::load;
@@ -26,11 +26,12 @@ struct Reading<'a> {
 impl Calls for Reading<'_> {
     fn call(&mut self, _place: usize) -> Result<u64, Refused> {
         let mut source = SliceSource::new(self.input);
-        let bytes = tested(read_all(self.alloc, &mut source));
-        if !self.input.ends_with(source.left()) {
-            return Err(Refused::Different);
+        let answer = tested_digest(read_all(self.alloc, &mut source));
+        if self.input.ends_with(source.left()) {
+            answer
+        } else {
+            Err(Refused::Different)
         }
-        Ok(digest_of_bytes(bytes?.as_slice()))
     }
 }
 
@@ -43,8 +44,7 @@ struct Assembling<'a> {
 
 impl Calls for Assembling<'_> {
     fn call(&mut self, _place: usize) -> Result<u64, Refused> {
-        let scenario = tested(assemble_bytes(self.alloc, self.input))?;
-        Ok(digest_of(&scenario))
+        tested_digest(assemble_bytes(self.alloc, self.input))
     }
 }
 
@@ -57,8 +57,7 @@ struct Loading {
 
 impl Calls for Loading {
     fn call(&mut self, _place: usize) -> Result<u64, Refused> {
-        let scenario = tested(load(self.alloc, self.image.as_slice()))?;
-        Ok(digest_of(&scenario))
+        tested_digest(load(self.alloc, self.image.as_slice()))
     }
 }
 
@@ -71,8 +70,7 @@ struct Saving {
 
 impl Calls for Saving {
     fn call(&mut self, _place: usize) -> Result<u64, Refused> {
-        let image = tested(save(self.alloc, &self.scenario))?;
-        Ok(digest_of_bytes(image.as_slice()))
+        tested_digest(save(self.alloc, &self.scenario))
     }
 
     fn shown(&self) -> u64 {
@@ -89,9 +87,16 @@ struct Verifying {
 
 impl Calls for Verifying {
     fn call(&mut self, _place: usize) -> Result<u64, Refused> {
-        let program = tested(Program::verify(self.alloc, self.instrs.as_slice()))?;
-        Ok(digest_of(&program))
+        tested_digest(Program::verify(self.alloc, self.instrs.as_slice()))
     }
+}
+
+/// The image of a text's scenario.
+pub fn image(alloc: Global, text: &[u8]) -> Result<Vec<u8>, Refused> {
+    let scenario = scenario(alloc, text)?;
+    let image = prepared(save(alloc, &scenario));
+    drop(scenario);
+    image
 }
 
 /// The instructions of the first program.
@@ -108,26 +113,31 @@ fn first_instrs(alloc: Global, scenario: &Scenario) -> Result<Vec<Instr>, Refuse
 }
 
 fn sweep_read(alloc: Global, input: &[u8]) -> Findings {
-    sweep(&mut Reading { alloc, input })
+    sweep(Reading { alloc, input })
 }
 
 fn sweep_assemble(alloc: Global, input: &[u8]) -> Findings {
-    sweep(&mut Assembling { alloc, input })
+    sweep(Assembling { alloc, input })
 }
 
 fn sweep_load(alloc: Global, input: &[u8]) -> Result<Findings, Refused> {
-    let image = prepared(save(alloc, &scenario(alloc, input)?))?;
-    Ok(sweep(&mut Loading { alloc, image }))
+    let image = image(alloc, input)?;
+    Ok(sweep(Loading { alloc, image }))
 }
 
 fn sweep_save(alloc: Global, input: &[u8]) -> Result<Findings, Refused> {
     let scenario = scenario(alloc, input)?;
-    Ok(sweep(&mut Saving { alloc, scenario }))
+    Ok(sweep(Saving { alloc, scenario }))
 }
 
 fn sweep_verify(alloc: Global, input: &[u8]) -> Result<Findings, Refused> {
-    let instrs = first_instrs(alloc, &scenario(alloc, input)?)?;
-    Ok(sweep(&mut Verifying { alloc, instrs }))
+    let scenario = scenario(alloc, input)?;
+    let instrs = first_instrs(alloc, &scenario);
+    drop(scenario);
+    Ok(sweep(Verifying {
+        alloc,
+        instrs: instrs?,
+    }))
 }
 
 /// The sweep of this name, over a scenario's text, if it is one of these.

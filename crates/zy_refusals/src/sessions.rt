@@ -1,6 +1,6 @@
 //! Debuggers and boards.
 
-use crate::calls::{Calls, Fault, Findings, Refused, prepared, sweep, tested};
+use crate::calls::{Calls, Fault, Findings, Refused, prepared, sweep, tested, tested_digest};
 use crate::digest::{Digest, Digested, digest_of};
 use crate::machines::choices;
 use crate::scenarios::scenario;
@@ -19,12 +19,12 @@ const EVERY: usize = 2;
 /// How many it keeps.
 const RING: usize = 1;
 
-/// The position and the machine of a debugger.
-fn digest_of_debugger(debugger: &Debugger) -> u64 {
-    let mut digest = Digest::new();
-    digest.number(debugger.position() as u64);
-    debugger.machine().put_into(&mut digest);
-    digest.value()
+/// The position and the machine.
+impl Digested for Debugger {
+    fn put_into(&self, digest: &mut Digest) {
+        digest.number(self.position() as u64);
+        self.machine().put_into(digest);
+    }
 }
 
 /// `Debugger::open` of a scenario, which is made again for each call.
@@ -37,8 +37,7 @@ struct OpeningDebugger {
 impl Calls for OpeningDebugger {
     fn call(&mut self, _place: usize) -> Result<u64, Refused> {
         let scenario = prepared(self.scenario.copy(self.alloc))?;
-        let debugger = tested(Debugger::open(self.alloc, scenario, EVERY, RING))?;
-        Ok(digest_of_debugger(&debugger))
+        tested_digest(Debugger::open(self.alloc, scenario, EVERY, RING))
     }
 }
 
@@ -70,7 +69,7 @@ impl Calls for Commanding {
     }
 
     fn shown(&self) -> u64 {
-        digest_of_debugger(&self.debugger)
+        digest_of(&self.debugger)
     }
 }
 
@@ -99,8 +98,7 @@ struct OpeningBoard {
 impl Calls for OpeningBoard {
     fn call(&mut self, _place: usize) -> Result<u64, Refused> {
         let scenario = prepared(self.scenario.copy(self.alloc))?;
-        let board = tested(Board::new(self.alloc, scenario))?;
-        Ok(digest_of(&board))
+        tested_digest(Board::new(self.alloc, scenario))
     }
 }
 
@@ -134,7 +132,7 @@ impl Calls for Turning {
 
 fn sweep_debugger(alloc: Global, input: &[u8]) -> Result<Findings, Refused> {
     let scenario = scenario(alloc, input)?;
-    Ok(sweep(&mut OpeningDebugger { alloc, scenario }))
+    Ok(sweep(OpeningDebugger { alloc, scenario }))
 }
 
 /// A debugger of a text's scenario.
@@ -147,12 +145,12 @@ fn sweep_commands(alloc: Global, input: &[u8]) -> Result<Findings, Refused> {
     let (part, below) = input.split_at(cut_len(input));
     let commands = commands_of(alloc, below)?;
     let debugger = debugger(alloc, part)?;
-    Ok(sweep(&mut Commanding { debugger, commands }))
+    Ok(sweep(Commanding { debugger, commands }))
 }
 
 fn sweep_board(alloc: Global, input: &[u8]) -> Result<Findings, Refused> {
     let scenario = scenario(alloc, input)?;
-    Ok(sweep(&mut OpeningBoard { alloc, scenario }))
+    Ok(sweep(OpeningBoard { alloc, scenario }))
 }
 
 /// A board of a text's scenario.
@@ -164,7 +162,7 @@ fn board(alloc: Global, text: &[u8]) -> Result<Board, Refused> {
 fn sweep_turns(alloc: Global, input: &[u8]) -> Result<Findings, Refused> {
     let choices = choices(alloc, input)?;
     let board = board(alloc, input)?;
-    Ok(sweep(&mut Turning { board, choices }))
+    Ok(sweep(Turning { board, choices }))
 }
 
 /// The sweep of this name, over a scenario's text, if it is one of these. That of `command` has commands below it.

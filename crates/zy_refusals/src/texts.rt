@@ -1,6 +1,7 @@
 //! Texts, listings and their lines.
+ghost use Rattle.std.specs.Prelude.{◌<◌};
 
-use crate::calls::{Calls, Findings, Refused, ended, prepared, sweep, tested};
+use crate::calls::{Calls, Findings, Refused, ended, kept, prepared, sweep, tested, tested_digest};
 use crate::digest::{Digest, digest_of, digest_of_bytes};
 use crate::machines::machine;
 use crate::scenarios::scenario;
@@ -41,6 +42,21 @@ impl Written for LineBuffer {
 /// Memory for all that a call writes.
 pub fn room(alloc: Global) -> Result<Vec<u8>, Refused> {
     prepared(Vec::with_capacity(alloc, ROOM))
+}
+
+/// Writes the listing of a text's scenario.
+fn write_listing_of(alloc: Global, text: &[u8], sink: &mut VecSink) -> Result<(), Refused>
+    requires { sink.old.1 < u64.MAX }
+{
+    let scenario = scenario(alloc, text)?;
+    prepared(ended(write_run(alloc, scenario, sink)))
+}
+
+/// The listing of a text's scenario.
+pub fn listing(alloc: Global, text: &[u8]) -> Result<VecSink, Refused> {
+    let mut sink = VecSink::new(room(alloc)?);
+    let outcome = write_listing_of(alloc, text, &mut sink);
+    kept(sink, outcome)
 }
 
 /// What a call wrote before it was out of memory.
@@ -117,9 +133,18 @@ struct WritingRun<'a> {
 impl Calls for WritingRun<'_> {
     fn call(&mut self, _place: usize) -> Result<u64, Refused> {
         let mut sink = VecSink::new(room(self.alloc)?);
-        let scenario = scenario(self.alloc, self.input)?;
-        let outcome = tested(ended(write_run(self.alloc, scenario, &mut sink)));
+        let outcome = self.write(&mut sink);
         self.prefix.answer(sink, outcome)
+    }
+}
+
+impl WritingRun<'_> {
+    /// Makes the scenario, and the call under test.
+    fn write(&self, sink: &mut VecSink) -> Result<(), Refused>
+        requires { sink.old.1 < u64.MAX }
+    {
+        let scenario = scenario(self.alloc, self.input)?;
+        tested(ended(write_run(self.alloc, scenario, sink)))
     }
 }
 
@@ -211,8 +236,7 @@ fn serial_digest(alloc: Global, machine: &Machine) -> Result<u64, Refused> {
     {
         return Err(Refused::Fault);
     }
-    let table = tested(serial(alloc, machine.scenario(), machine.commits()))?;
-    Ok(digest_of(&table))
+    tested_digest(serial(alloc, machine.scenario(), machine.commits()))
 }
 
 impl Calls for Testing {
@@ -253,7 +277,7 @@ impl Calls for Comparison<'_> {
 fn sweep_writing(alloc: Global, input: &[u8], text: Text) -> Result<Findings, Refused> {
     let machine = machine(alloc, input)?;
     let prefix = Prefix::new(VecSink::new(Vec::new(alloc)));
-    Ok(sweep(&mut Writing {
+    Ok(sweep(Writing {
         alloc,
         machine,
         text,
@@ -263,7 +287,7 @@ fn sweep_writing(alloc: Global, input: &[u8], text: Text) -> Result<Findings, Re
 
 fn sweep_write_run(alloc: Global, input: &[u8]) -> Findings {
     let prefix = Prefix::new(VecSink::new(Vec::new(alloc)));
-    sweep(&mut WritingRun {
+    sweep(WritingRun {
         alloc,
         input,
         prefix,
@@ -273,7 +297,7 @@ fn sweep_write_run(alloc: Global, input: &[u8]) -> Findings {
 fn sweep_lines(alloc: Global, input: &[u8], kind: Kind) -> Result<Findings, Refused> {
     let machine = machine(alloc, input)?;
     let prefix = Prefix::new(LineBuffer::new(alloc));
-    Ok(sweep(&mut Lining {
+    Ok(sweep(Lining {
         alloc,
         machine,
         kind,
@@ -283,13 +307,12 @@ fn sweep_lines(alloc: Global, input: &[u8], kind: Kind) -> Result<Findings, Refu
 
 fn sweep_serial(alloc: Global, input: &[u8]) -> Result<Findings, Refused> {
     let machine = machine(alloc, input)?;
-    Ok(sweep(&mut Testing { alloc, machine }))
+    Ok(sweep(Testing { alloc, machine }))
 }
 
 fn sweep_compare(alloc: Global, input: &[u8]) -> Result<Findings, Refused> {
-    let mut listing = VecSink::new(room(alloc)?);
-    prepared(write_run(alloc, scenario(alloc, input)?, &mut listing))?;
-    Ok(sweep(&mut Comparison {
+    let listing = listing(alloc, input)?;
+    Ok(sweep(Comparison {
         alloc,
         input,
         listing,

@@ -39,32 +39,53 @@ enum Job {
 /// Whether a listing passes `check`, and `run` of its scenario part prints it again.
 fn repeat(alloc: Global, listing: &[u8]) -> Result<(), Refused> {
     let (part, _) = listing.split_at(cut_len(listing));
-    if prepared(compare(alloc, listing, scenario(alloc, part)?))? != Verdict::Table {
-        return Err(Refused::Different);
-    }
+    check(alloc, part, listing)?;
     let mut sink = VecSink::new(room(alloc)?);
-    let mut source = SliceSource::new(part);
+    let outcome = match run_text(alloc, part, &mut sink) {
+        Ok(()) if sink.bytes() != listing => Err(Refused::Different),
+        outcome => outcome,
+    };
+    drop(sink);
+    outcome
+}
+
+/// Whether a listing passes `check`, where its scenario is that of a text.
+fn check(alloc: Global, text: &[u8], listing: &[u8]) -> Result<(), Refused> {
+    let scenario = scenario(alloc, text)?;
+    match prepared(compare(alloc, listing, scenario)) {
+        Ok(Verdict::Table) => Ok(()),
+        Ok(Verdict::NotTable(_)) => Err(Refused::Different),
+        Err(refused) => Err(refused),
+    }
+}
+
+/// Writes what `run` prints of a text.
+fn run_text(alloc: Global, text: &[u8], sink: &mut VecSink) -> Result<(), Refused>
+    requires { sink.old.1 < u64.MAX }
+{
+    let mut source = SliceSource::new(text);
     let mut input = Vec::new(alloc);
-    prepared(run_bytes(
+    let outcome = prepared(ended(run_bytes(
         alloc,
         Format::Text,
         RunFormat::Listing,
         &mut source,
-        &mut sink,
+        sink,
         &mut input,
-    ))?;
-    if sink.bytes() == listing {
-        Ok(())
-    } else {
-        Err(Refused::Different)
-    }
+    )));
+    drop(input);
+    outcome
 }
 
 /// Whether a machine's listing passes `check`, and `run` of its scenario part prints it again.
 fn repeat_machine(alloc: Global, machine: &Machine) -> Result<(), Refused> {
     let mut sink = VecSink::new(room(alloc)?);
-    prepared(write_listing(alloc, machine, &mut sink))?;
-    repeat(alloc, sink.bytes())
+    let outcome = match prepared(write_listing(alloc, machine, &mut sink)) {
+        Ok(()) => repeat(alloc, sink.bytes()),
+        Err(refused) => Err(refused),
+    };
+    drop(sink);
+    outcome
 }
 
 /// The choices that a machine made, actor by actor.
@@ -98,27 +119,21 @@ fn look_at_cut(gate: &Noting, choices: &[Choice]) -> Refused {
     }
 }
 
-/// Lets three threads make a machine under a gate, and looks at it.
-fn run_under<R: Threads + Wait + Sync>(
+/// `Job::Run`: lets three threads make a machine under a gate, and looks at it.
+fn run<R: Threads + Wait + Sync>(
     rt: &R,
     alloc: Global,
-    scenario: Scenario,
+    input: &[u8],
     gate: &Noting,
 ) -> Result<u64, Refused> {
-    match tested(run_threads(rt, alloc, scenario, gate)) {
-        Ok(machine) => look_at(alloc, &machine, gate),
-        Err(refused) => Err(refused),
-    }
-}
-
-/// `Job::Run`.
-fn run<R: Threads + Wait + Sync>(rt: &R, alloc: Global, input: &[u8]) -> Result<u64, Refused> {
-    let choices = choices(alloc, input)?;
-    let gate = Noting::new(alloc, choices.len())?;
     let scenario = scenario(alloc, input)?;
-    match run_under(rt, alloc, scenario, &gate) {
-        Err(Refused::Memory) => Err(look_at_cut(&gate, choices.as_slice())),
-        answer => answer,
+    match tested(run_threads(rt, alloc, scenario, gate)) {
+        Ok(machine) => {
+            let answer = look_at(alloc, &machine, gate);
+            drop(machine);
+            answer
+        }
+        Err(refused) => Err(refused),
     }
 }
 
@@ -134,7 +149,17 @@ fn threaded<R: Threads + Wait + Sync, G: Gate + Sync>(
 {
     let mut source = SliceSource::new(text);
     let mut input = Vec::new(alloc);
-    ended(threads_bytes(rt, alloc, Format::Text, &mut source, sink, &mut input, gate))
+    let outcome = ended(threads_bytes(
+        rt,
+        alloc,
+        Format::Text,
+        &mut source,
+        sink,
+        &mut input,
+        gate,
+    ));
+    drop(input);
+    outcome
 }
 
 /// `Job::Alone`: what it writes is always the same.
@@ -157,16 +182,24 @@ fn merged<R: Threads + Wait + Sync, G: Gate + Sync>(
     gate: &G,
 ) -> Result<(), Refused> {
     let mut sink = VecSink::new(room(alloc)?);
-    tested(threaded(rt, alloc, input, &mut sink, gate))?;
-    repeat(alloc, sink.bytes())
+    let outcome = match tested(threaded(rt, alloc, input, &mut sink, gate)) {
+        Ok(()) => repeat(alloc, sink.bytes()),
+        Err(refused) => Err(refused),
+    };
+    drop(sink);
+    outcome
 }
 
 /// `Job::Slow`.
-fn slow<R: Threads + Wait + Sync>(rt: &R, alloc: Global, input: &[u8]) -> Result<u64, Refused> {
-    let choices = choices(alloc, input)?;
+fn slow<R: Threads + Wait + Sync>(
+    rt: &R,
+    alloc: Global,
+    input: &[u8],
+    choices: &[Choice],
+) -> Result<u64, Refused> {
     let gate = SlowB::new();
     merged(rt, alloc, input, &gate)?;
-    if gate.is_spent(choices.as_slice()) {
+    if gate.is_spent(choices) {
         Ok(0)
     } else {
         Err(Refused::Different)
@@ -174,15 +207,56 @@ fn slow<R: Threads + Wait + Sync>(rt: &R, alloc: Global, input: &[u8]) -> Result
 }
 
 /// `Job::Noted`.
-fn noted<R: Threads + Wait + Sync>(rt: &R, alloc: Global, input: &[u8]) -> Result<u64, Refused> {
-    let choices = choices(alloc, input)?;
-    let gate = Noting::new(alloc, choices.len())?;
-    match merged(rt, alloc, input, &gate) {
-        Ok(()) if gate.is_quiet() && gate.is_all(choices.as_slice()) => Ok(0),
-        Ok(()) => Err(Refused::Different),
-        Err(Refused::Memory) => Err(look_at_cut(&gate, choices.as_slice())),
-        Err(refused) => Err(refused),
+fn noted<R: Threads + Wait + Sync>(
+    rt: &R,
+    alloc: Global,
+    input: &[u8],
+    choices: &[Choice],
+    gate: &Noting,
+) -> Result<u64, Refused> {
+    merged(rt, alloc, input, gate)?;
+    if gate.is_quiet() && gate.is_all(choices) {
+        Ok(0)
+    } else {
+        Err(Refused::Different)
     }
+}
+
+/// Does a job under a gate that notes its calls, and looks at those where the job is out of memory.
+fn work_noted<R: Threads + Wait + Sync>(
+    rt: &R,
+    alloc: Global,
+    job: Job,
+    input: &[u8],
+    choices: &[Choice],
+) -> Result<u64, Refused> {
+    let gate = Noting::new(alloc, choices.len())?;
+    let answer = match job {
+        Job::Run => run(rt, alloc, input, &gate),
+        _ => noted(rt, alloc, input, choices, &gate),
+    };
+    let answer = match answer {
+        Err(Refused::Memory) => Err(look_at_cut(&gate, choices)),
+        answer => answer,
+    };
+    drop(gate);
+    answer
+}
+
+/// Does a job under a gate that looks at the choices.
+fn work_gated<R: Threads + Wait + Sync>(
+    rt: &R,
+    alloc: Global,
+    job: Job,
+    input: &[u8],
+) -> Result<u64, Refused> {
+    let choices = choices(alloc, input)?;
+    let answer = match job {
+        Job::Slow => slow(rt, alloc, input, choices.as_slice()),
+        _ => work_noted(rt, alloc, job, input, choices.as_slice()),
+    };
+    drop(choices);
+    answer
 }
 
 /// Does a job.
@@ -194,20 +268,31 @@ fn work<R: Threads + Wait + Sync>(
     prefix: &mut Prefix<VecSink>,
 ) -> Result<u64, Refused> {
     match job {
-        Job::Run => run(rt, alloc, input),
         Job::Alone => alone(rt, alloc, input, prefix),
-        Job::Slow => slow(rt, alloc, input),
-        Job::Noted => noted(rt, alloc, input),
+        _ => work_gated(rt, alloc, job, input),
     }
 }
 
 /// Does a job, and again where it was out of memory.
 fn sweep_job<R: Threads + Wait + Sync>(rt: &R, alloc: Global, job: Job, input: &[u8]) -> Findings {
     let mut prefix = Prefix::new(VecSink::new(Vec::new(alloc)));
-    let first = work(rt, alloc, job, input, &mut prefix);
+    let found = sweep_with(rt, alloc, job, input, &mut prefix);
+    drop(prefix);
+    found
+}
+
+/// Does a job, and again where it was out of memory; what it wrote until then is kept in `prefix`.
+fn sweep_with<R: Threads + Wait + Sync>(
+    rt: &R,
+    alloc: Global,
+    job: Job,
+    input: &[u8],
+    prefix: &mut Prefix<VecSink>,
+) -> Findings {
+    let first = work(rt, alloc, job, input, prefix);
     let is_refused = first == Err(Refused::Memory);
     let answer = if is_refused {
-        again(work(rt, alloc, job, input, &mut prefix))
+        again(work(rt, alloc, job, input, prefix))
     } else {
         first.map_err(Findings::NoAnswer)
     };
