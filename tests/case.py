@@ -71,8 +71,8 @@ class Case:
         return self.text_given + b'\n' * (self.pad - len(self.text_given))
 
     def run(self, more=None, command=None, **how):
-        """The status, the output (None where it went elsewhere) and standard error of a run, or of another command's. What `more`
-        has goes into the environment; the rest is for subprocess.run, the input too."""
+        """The status, the output (None where it went elsewhere) and standard error of the case's run, or of a run of another command.
+        What `more` has goes into the environment; the rest is for subprocess.run, the input too."""
         command = command or [PROGRAM] + self.words
         how.update(stderr=subprocess.PIPE, timeout=60, env={**os.environ, **(more or {})})
         if self.to == 'closed':

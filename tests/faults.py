@@ -308,7 +308,8 @@ SCRIPT_FAULTS = [
     script('build: each proof behind the first has one job', 'tools/build.py', 'else min(2, self.room)', 'else 1', 'build'),
     script('build: each proof has all processors', 'tools/build.py', 'self.room if name == first else min(2, self.room)', 'self.room', 'build'),
     script('build: the first proof has two jobs', 'tools/build.py', 'self.room if name == first else min', 'min', 'build'),
-    script('build: what is under way goes before nothing', 'tools/build.py', 'self.needs.keys() - self.done, key=self.behind.get)', 'self.left, key=self.behind.get, default=None)', 'build'),
+    script('build: a proof under way is not counted as the first', 'tools/build.py', 'self.needs.keys() - self.done, key=self.behind.get)',
+           'self.left, key=self.behind.get, default=None)', 'build'),
     script('build: no proof goes before the others', 'tools/build.py', "before = () if is_first else ('nice',)", 'before = ()', 'build'),
     script('build: a proof that fails is passed over', 'tools/build.py', 'if not is_proved:', 'if False:', 'build'),
     # what must be believed, and the program that rt ci leaves

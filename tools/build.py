@@ -146,8 +146,8 @@ class Build:
         self.begun, self.room = time.monotonic(), side_by_side()
 
     def begin(self):
-        """Begins proofs while there is room, first those on which most of the work waits. The one of all on which most waits goes before the others, on all
-        processors; each of the others has two jobs, for what that one leaves idle."""
+        """Begins proofs while there is room, first those on which most of the work waits. The one of all on which most waits goes before the others, with
+        as many jobs as there is room for proofs; each of the others has two jobs, for what that one leaves idle."""
         ready = sorted((name for name in self.left if self.needs[name] <= self.done), key=self.behind.get, reverse=True)
         first = max(self.needs.keys() - self.done, key=self.behind.get)
         for name in ready[:self.room - len(self.under_way)]:

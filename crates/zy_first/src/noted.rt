@@ -4,7 +4,7 @@ ghost use Rattle.std.specs.Prelude.{◌≡◌};
 use std::io::{ErrorKind, Read, Write};
 use std::{fmt, io};
 
-/// The number by which the system says that a stream is not open for reading.
+/// The number by which the system says that a stream is not open for what is asked of it.
 const NOT_OPEN: i32 = 9;
 
 /// Why a call of a stream has failed.
@@ -16,7 +16,7 @@ pub enum Cause {
     Forbidden,
     /// It is a directory.
     Directory,
-    /// It is not open for reading.
+    /// It is not open for what is asked of it.
     NotOpen,
     /// The reader of a pipe has closed it.
     Unread,
@@ -25,7 +25,7 @@ pub enum Cause {
 }
 
 impl Cause {
-    /// What an error says.
+    /// The cause that an error tells of.
     fn of(error: &io::Error) -> Cause {
         match error.kind() {
             ErrorKind::NotFound | ErrorKind::NotADirectory => Cause::Missing,
@@ -55,7 +55,7 @@ impl fmt::Display for Cause {
 #[derive(Drop)]
 pub struct Noted<T> {
     stream: T,
-    /// Why the last call that failed has failed; before any has, something else.
+    /// Why the last call that failed has failed; `Other` before one has.
     cause: Cause,
 }
 

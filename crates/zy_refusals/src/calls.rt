@@ -1,7 +1,7 @@
 //! Calls that are out of memory once, and what is found then.
 ghost use Rattle.std.specs.Prelude.{◌≡◌, IfOk, Ok};
 
-use crate::digest::{Digest, Digested, digest_of_last};
+use crate::digest::{Digest, Digested, digest_and_drop};
 use std::alloc::AllocError;
 use zy_asm::{AsmKind, LineFault};
 use zy_debug::DebugFault;
@@ -126,12 +126,12 @@ pub fn tested<T: Drop, F: Fault + Drop>(answer: Result<T, F>) -> Result<T, Refus
     }
 }
 
-/// The digest of the answer of the call under test, which nothing else needs.
+/// The digest of the answer of the call under test, which is dropped.
 pub fn tested_digest<T: Digested + Drop, F: Fault + Drop>(
     answer: Result<T, F>,
 ) -> Result<u64, Refused> {
     match tested(answer) {
-        Ok(value) => Ok(digest_of_last(value)),
+        Ok(value) => Ok(digest_and_drop(value)),
         Err(refused) => Err(refused),
     }
 }
@@ -155,7 +155,7 @@ pub fn ended<T: Drop, F: Drop>(answer: Result<T, F>) -> Result<(), F> {
     }
 }
 
-/// A value that is made, where all that makes it ended well.
+/// A value, if what was done to make it ended well; else it is dropped.
 pub fn kept<T: Drop>(value: T, outcome: Result<(), Refused>) -> Result<T, Refused> {
     match outcome {
         Ok(()) => Ok(value),
@@ -234,7 +234,7 @@ pub fn answered(answers: Answers, again: bool) -> Findings {
     }
 }
 
-/// What is found of all calls, which nothing else needs.
+/// What is found of all calls; they are dropped.
 pub fn sweep<C: Calls + Drop>(calls: C) -> Findings {
     let mut calls = calls;
     let found = sweep_in_order(&mut calls);

@@ -1,7 +1,7 @@
 //! Copies.
 
 use crate::calls::{Calls, Findings, Refused, prepared, sweep, tested};
-use crate::digest::{Digested, digest_of, digest_of_last};
+use crate::digest::{Digested, digest_and_drop, digest_of};
 use crate::growths::{book, link, locks, row_list, txn, wire};
 use crate::machines::machine;
 use crate::scenarios::scenario;
@@ -96,7 +96,7 @@ struct Copying<T> {
 
 impl<T: Copied> Calls for Copying<T> {
     fn call(&mut self, _place: usize) -> Result<u64, Refused> {
-        let digest = digest_of_last(self.value.copied(self.alloc)?);
+        let digest = digest_and_drop(self.value.copied(self.alloc)?);
         if digest == digest_of(&self.value) {
             Ok(digest)
         } else {

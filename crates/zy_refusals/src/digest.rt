@@ -86,8 +86,8 @@ pub fn digest_of<T: Digested>(value: &T) -> u64 {
     digest.value()
 }
 
-/// The digest of a value that nothing else needs.
-pub fn digest_of_last<T: Digested + Drop>(value: T) -> u64 {
+/// The digest of a value, which is dropped.
+pub fn digest_and_drop<T: Digested + Drop>(value: T) -> u64 {
     let digest = digest_of(&value);
     drop(value);
     digest
