@@ -17,7 +17,7 @@ use zy_text::names::{is, is_name, is_numeral};
 use zy_text::numbers::number_of;
 
 /// What is done with a transaction.
-#[derive(Clone, Copy, Debug, PartialEq, Eq)]
+#[derive(Clone, Copy)]
 pub enum TxnAction {
     /// The client begins it.
     Begin,
@@ -28,7 +28,7 @@ pub enum TxnAction {
 }
 
 /// What an actor does.
-#[derive(Clone, Copy, Debug, PartialEq, Eq)]
+#[derive(Clone, Copy)]
 pub enum Action {
     /// Something with the transaction that the next word names.
     Txn(TxnAction),

@@ -7,7 +7,7 @@ use std::fmt;
 use zy_isa::ProgramFault;
 
 /// Why a line is refused. Of several reasons the first is reported, in the order in which the line is judged.
-#[derive(Clone, Copy, Debug, PartialEq, Eq)]
+#[derive(Clone, Copy, Debug)]
 pub enum AsmKind {
     /// This is not the statement of the header that belongs here.
     Header,
@@ -32,14 +32,14 @@ pub enum AsmKind {
 }
 
 /// The first faulty line, from 1, and why it is refused.
-#[derive(Clone, Copy, Debug, PartialEq, Eq)]
+#[derive(Clone, Copy)]
 pub struct AsmFault {
     pub line: usize,
     pub kind: AsmKind,
 }
 
 /// What is wrong with a line. The test that failed makes it, and its text says it in words.
-#[derive(Clone, Copy, PartialEq, Eq)]
+#[derive(Clone, Copy)]
 pub enum Reason {
     /// This is not the statement of the header that belongs here.
     NotTheHeader,
@@ -265,7 +265,7 @@ fn tell_target<W: fmt::Write>(f: &mut fmt::Formatter<W>, number: usize, at: u8) 
 }
 
 /// The first faulty line, from 1, and what is wrong with it.
-#[derive(Clone, Copy, Debug, PartialEq, Eq)]
+#[derive(Clone, Copy, Debug)]
 pub struct LineFault {
     pub line: usize,
     pub reason: Reason,

@@ -12,7 +12,7 @@ use std::alloc::Global;
 use zy_isa::{Instr, JumpOperation, Parts, Program, Reg, Word};
 
 /// An instruction whose label, if it has one, is still to be found.
-#[derive(Debug, Drop)]
+#[derive(Drop)]
 pub enum Unresolved {
     /// An instruction that names no label.
     Whole(Instr),

@@ -6,7 +6,7 @@ use std::fmt;
 const MOST: usize = 24;
 
 /// The first bytes of a word.
-#[derive(Clone, Copy, Debug, PartialEq, Eq)]
+#[derive(Clone, Copy)]
 pub struct WordStart {
     bytes: [u8; MOST],
     count: usize,

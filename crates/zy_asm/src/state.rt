@@ -9,7 +9,7 @@ use std::alloc::Global;
 use zy_isa::{Choice, Program, Row, Rule, Version};
 
 /// What may come next.
-#[derive(Clone, Copy, Debug, PartialEq, Eq)]
+#[derive(Clone, Copy, PartialEq, Eq)]
 pub enum Stage {
     /// The first line of the header.
     Zephyr,

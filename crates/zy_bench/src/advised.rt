@@ -80,7 +80,7 @@ impl fmt::Display for Advised<'_> {
                 write!(f, "Image({fault:?}): {advice}")
             }
             fault => match self.reading.failure {
-                Some(failure) if fault == BenchFault::Read => write!(f, "Read: {failure}"),
+                Some(failure) if matches!(fault, BenchFault::Read) => write!(f, "Read: {failure}"),
                 _ => write!(f, "{fault}"),
             },
         }

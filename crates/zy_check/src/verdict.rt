@@ -5,7 +5,7 @@ use std::alloc::AllocError;
 use zy_io::{Decimal, Line, LineBuffer, joined};
 
 /// Whether an input is the listing of its scenario.
-#[derive(Clone, Copy, Debug, PartialEq, Eq)]
+#[derive(Clone, Copy)]
 pub enum Verdict {
     /// It is, byte for byte.
     Table,

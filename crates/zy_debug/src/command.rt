@@ -6,7 +6,7 @@ use thiserror::Error;
 use zy_isa::Node;
 
 /// What a session is asked.
-#[derive(Clone, Copy, Debug, PartialEq, Eq)]
+#[derive(Clone, Copy)]
 pub enum Command {
     /// Goes this number of choices on.
     Step(u32),
@@ -41,7 +41,7 @@ pub enum Command {
 }
 
 /// What a command that is not refused says.
-#[derive(Clone, Copy, Debug, PartialEq, Eq)]
+#[derive(Clone, Copy)]
 pub enum Reply {
     /// The session is at this position.
     At(usize),
@@ -56,7 +56,7 @@ pub enum Reply {
 }
 
 /// What is there to be shown of a session's machine.
-#[derive(Clone, Copy, Debug, PartialEq, Eq)]
+#[derive(Clone, Copy)]
 pub enum Shown {
     /// A page of the scenario, and its locks.
     Page(u16),
@@ -71,7 +71,7 @@ pub enum Shown {
 }
 
 /// Why a command is refused.
-#[derive(Clone, Copy, Debug, PartialEq, Eq, Error)]
+#[derive(Clone, Copy, Debug, Error)]
 pub enum DebugFault {
     /// There is no stop of this number.
     #[error("no such stop")]

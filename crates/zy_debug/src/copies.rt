@@ -2,7 +2,7 @@
 ghost use Rattle.std.specs.Prelude.{◌≡◌, ◌≤◌, ◌<◌, ◌+◌, IfSome};
 
 /// How many copies are kept of each kind, and at which positions.
-#[derive(Clone, Copy, Debug)]
+#[derive(Clone, Copy)]
 pub(crate) struct Copies {
     every: usize,
     /// How far those that are spread over the scenario are apart; 0 where there are none.

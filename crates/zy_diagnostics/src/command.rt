@@ -3,7 +3,7 @@
 use std::fmt;
 
 /// A command that reads a scenario, an image or a listing.
-#[derive(Clone, Copy, Debug, PartialEq, Eq)]
+#[derive(Clone, Copy, PartialEq, Eq)]
 pub enum CommandName {
     Run,
     Trace,

@@ -9,7 +9,7 @@ use zy_image::{ImageRefusal, LoadFault};
 use zy_io::{ReadFault, TextFault};
 
 /// Why an engine gave up. Its text names the fault, and says what is wrong.
-#[derive(Clone, Copy, Debug, PartialEq, Eq, Error)]
+#[derive(Clone, Copy, Debug, Error)]
 pub enum BenchFault {
     /// The scenario text is refused, from this line on.
     #[error("Input(line {}, {:?}): {}", .0.line, .0.reason.kind(), .0.reason)]

@@ -12,7 +12,7 @@ use zy_isa::Scenario;
 use zy_text::cut::cut_len;
 
 /// What an input is written in.
-#[derive(Clone, Copy, Debug, PartialEq, Eq)]
+#[derive(Clone, Copy)]
 pub enum Format {
     /// The text of a scenario.
     Text,

@@ -15,7 +15,7 @@ use zy_machine::Machine;
 use zy_trace::trace;
 
 /// What can be written of a scenario's run.
-#[derive(Clone, Copy, Debug, PartialEq, Eq)]
+#[derive(Clone, Copy)]
 pub enum RunFormat {
     /// The listing.
     Listing,
@@ -49,7 +49,7 @@ impl RunFormat {
 }
 
 /// What can be written of a scenario without its run.
-#[derive(Clone, Copy, Debug, PartialEq, Eq)]
+#[derive(Clone, Copy)]
 pub enum SourceFormat {
     /// Its image.
     Image,

@@ -26,7 +26,7 @@ use zy_stops::replay::{advance_to, start};
 use zy_text::Each;
 
 /// What a search goes by, beside what it looks for.
-#[derive(Clone, Copy, Debug, PartialEq, Eq)]
+#[derive(Clone, Copy)]
 pub struct SearchOptions {
     /// What the input is written in.
     pub format: Format,

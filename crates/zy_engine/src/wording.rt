@@ -9,7 +9,7 @@ use zy_text::numbers::number_of;
 use zy_text::{Canonical, Words};
 
 /// How a scenario is written.
-#[derive(Clone, Copy, Debug, PartialEq, Eq)]
+#[derive(Clone, Copy)]
 pub enum Wording {
     /// As the input has it: with its comments, and with the names of its transactions.
     Own,

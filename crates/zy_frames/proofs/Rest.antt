@@ -47,7 +47,7 @@ took m ms now old f e = inr (m, f ∙ ap (λ x. m ∷ x) (sym e))
 sent : (m : Message) (now old : List Message) → now ≡ old ++ m ∷ [] → OneMore old now
 sent m now old e = inr (m, e)
 
--- what is left by the way to a view is left by the way to an equal one
+-- what a step to a view leaves, a step to an equal view leaves
 along : {v w x : View} → w ≡ x → LeavesTheRest v x → LeavesTheRest v w
 along {v = v} e h = subst (λ z. LeavesTheRest v z) (sym e) h
 

@@ -6,7 +6,7 @@ use zy_isa::ProgramFault;
 
 /// Why bytes are no image of a scenario. The first that comes in the order of reading is reported; rows, transactions,
 /// instructions and choices count from 0.
-#[derive(Clone, Copy, Debug, PartialEq, Eq, Error)]
+#[derive(Clone, Copy, Debug, Error)]
 pub enum LoadFault {
     /// The first four bytes are neither `ZPH1` nor `ZPH2`.
     #[error("an image begins with ZPH1 or ZPH2")]

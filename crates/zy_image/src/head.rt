@@ -8,7 +8,7 @@ use crate::fields::{byte, half, magic_field};
 use zy_isa::{MAX_CAP, MAX_PAGES, MIN_CAP, Rule, Version};
 
 /// What the fields before the rows say.
-#[derive(Clone, Copy, Debug, PartialEq, Eq)]
+#[derive(Clone, Copy)]
 pub struct ImageHead {
     /// The version.
     pub version: Version,

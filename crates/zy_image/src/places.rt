@@ -3,7 +3,7 @@
 use std::fmt;
 
 /// A field of an image. Rows, transactions, instructions and choices count from 0.
-#[derive(Clone, Copy, Debug, PartialEq, Eq)]
+#[derive(Clone, Copy)]
 pub enum Field {
     /// The first bytes.
     Magic,

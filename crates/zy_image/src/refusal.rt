@@ -8,7 +8,7 @@ use zy_isa::ProgramFault;
 use zy_isa::scenario::opening_rows;
 
 /// What is at the place of a fault.
-#[derive(Clone, Copy, PartialEq, Eq)]
+#[derive(Clone, Copy)]
 pub enum FoundHere {
     /// Nothing beyond the fault.
     Nothing,
@@ -48,13 +48,6 @@ pub enum FoundHere {
         bytes: [u8; 3],
         txns: usize,
     },
-}
-
-/// The words that `Display` writes.
-impl fmt::Debug for FoundHere {
-    fn fmt<W: fmt::Write>(&self, f: &mut fmt::Formatter<W>) -> fmt::Result {
-        fmt::Display::fmt(self, f)
-    }
 }
 
 impl fmt::Display for FoundHere {
@@ -135,7 +128,7 @@ fn tell_byte<W: fmt::Write>(f: &mut fmt::Formatter<W>, byte: u8) -> fmt::Result 
 }
 
 /// A fault of an image, its place there, and what is at it.
-#[derive(Clone, Copy, Debug, PartialEq, Eq)]
+#[derive(Clone, Copy)]
 pub struct ImageRefusal {
     pub fault: LoadFault,
     pub at: usize,
@@ -150,6 +143,13 @@ impl ImageRefusal {
         let at = place(fault, bytes);
         let found = found_at(fault, bytes, at);
         ImageRefusal { fault, at, found }
+    }
+}
+
+/// The words that `Display` writes.
+impl fmt::Debug for ImageRefusal {
+    fn fmt<W: fmt::Write>(&self, f: &mut fmt::Formatter<W>) -> fmt::Result {
+        fmt::Display::fmt(self, f)
     }
 }
 

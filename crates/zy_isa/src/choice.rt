@@ -6,7 +6,7 @@ ghost use Rattle.zy_isa.specs.Choices as spec;
 use crate::node::{Actor, Node};
 
 /// One choice of a schedule. A transaction goes by its number, from 0.
-#[derive(Clone, Copy, Debug, PartialEq, Eq)]
+#[derive(Clone, Copy, PartialEq, Eq)]
 pub enum Choice {
     /// The client starts a migration.
     Start,

@@ -8,7 +8,7 @@ use crate::operation::Parts;
 use crate::version::Version;
 
 /// A register of a transaction. All are 0 when it begins.
-#[derive(Clone, Copy, Debug, PartialEq, Eq)]
+#[derive(Clone, Copy)]
 pub enum Reg {
     R0,
     R1,
@@ -21,7 +21,7 @@ pub enum Reg {
 }
 
 /// An instruction of a transaction's program.
-#[derive(Clone, Copy, Debug, PartialEq, Eq)]
+#[derive(Clone, Copy)]
 pub enum Instr {
     /// The register gets this number.
     Set(Reg, u32),

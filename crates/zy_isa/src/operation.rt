@@ -9,13 +9,13 @@ use crate::instr::{Instr, Reg};
 use crate::version::Version;
 
 /// An operation on a register and a number.
-#[derive(Clone, Copy, Debug, PartialEq, Eq)]
+#[derive(Clone, Copy)]
 pub enum NumberOperation {
     Set,
 }
 
 /// An operation on two registers.
-#[derive(Clone, Copy, Debug, PartialEq, Eq)]
+#[derive(Clone, Copy)]
 pub enum PairOperation {
     Read,
     Write,
@@ -25,20 +25,20 @@ pub enum PairOperation {
 }
 
 /// An operation on two registers, with a target that it may go to.
-#[derive(Clone, Copy, Debug, PartialEq, Eq)]
+#[derive(Clone, Copy)]
 pub enum JumpOperation {
     Beq,
 }
 
 /// An operation on nothing.
-#[derive(Clone, Copy, Debug, PartialEq, Eq)]
+#[derive(Clone, Copy)]
 pub enum LoneOperation {
     Commit,
     Abort,
 }
 
 /// What an instruction does, by the operands that it takes.
-#[derive(Clone, Copy, Debug, PartialEq, Eq)]
+#[derive(Clone, Copy)]
 pub enum Operation {
     Number(NumberOperation),
     Pair(PairOperation),
@@ -47,7 +47,7 @@ pub enum Operation {
 }
 
 /// An instruction, taken apart into its operation and its operands.
-#[derive(Clone, Copy, Debug, PartialEq, Eq)]
+#[derive(Clone, Copy)]
 pub enum Parts {
     Number(NumberOperation, Reg, u32),
     Pair(PairOperation, Reg, Reg),

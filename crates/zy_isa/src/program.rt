@@ -16,7 +16,7 @@ use thiserror::Error;
 pub const MAX_INSTRS: usize = 64;
 
 /// Why a list of instructions is no program. The first that holds is reported.
-#[derive(Clone, Copy, Debug, PartialEq, Eq, Error)]
+#[derive(Clone, Copy, Debug, Error)]
 pub enum ProgramFault {
     /// There is no instruction.
     #[error("a program needs an instruction")]

@@ -35,7 +35,7 @@ pub const MAX_TXNS: usize = 64;
 pub const MAX_CHOICES: usize = 4096;
 
 /// Why a scenario is refused. The first that holds is reported; rows and choices count from 0.
-#[derive(Clone, Copy, Debug, PartialEq, Eq, Error)]
+#[derive(Clone, Copy, Debug, Error)]
 pub enum ScenarioFault {
     /// There is no such version.
     #[error("the version is 1 or 2")]

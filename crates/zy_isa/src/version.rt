@@ -5,7 +5,7 @@ ghost use Rattle.zy_isa.specs.Versions as spec;
 use crate::operation::is;
 
 /// A version of scenarios. A later one has all that an earlier one has.
-#[derive(Clone, Copy, Debug, PartialEq, Eq)]
+#[derive(Clone, Copy, PartialEq, Eq)]
 pub enum Version {
     /// Version 1: a migration goes from A to B, and there is one at most.
     One,

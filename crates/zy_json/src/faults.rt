@@ -36,7 +36,7 @@ pub enum JsonFault {
 }
 
 /// The first line of a text that is none of a log in JSON, by its number.
-#[derive(Clone, Copy, Debug, PartialEq, Eq)]
+#[derive(Clone, Copy)]
 pub struct JsonLineFault {
     pub line: usize,
     /// Why it is none; never that there is no memory.
@@ -44,7 +44,7 @@ pub struct JsonLineFault {
 }
 
 /// Why the lines of a text were not read.
-#[derive(Clone, Copy, Debug, PartialEq, Eq)]
+#[derive(Clone, Copy)]
 pub enum JsonLogFault {
     /// A line is none of a log in JSON.
     Refused(JsonLineFault),

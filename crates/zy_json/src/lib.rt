@@ -9,8 +9,6 @@ pub mod logs;
 pub mod plain;
 pub mod reading;
 pub mod step;
-#[cfg(test)]
-mod tests;
 pub mod writing;
 
 pub use crate::faults::{JsonFault, JsonLineFault, JsonLogFault};

@@ -7,7 +7,7 @@ use zy_io::{Line, LineBuffer, joined};
 use zy_isa::Actor;
 
 /// What a line of a log tells of a step, part by part, in the words of the text format.
-#[derive(Clone, Copy, Debug, PartialEq, Eq)]
+#[derive(Clone, Copy)]
 pub struct JsonStep<'a> {
     /// Who made the step.
     pub actor: Actor,
@@ -20,7 +20,7 @@ pub struct JsonStep<'a> {
 }
 
 /// A step as the line of a log that tells it, as `A run 0 -> did ! pull`.
-#[derive(Clone, Copy, Debug, PartialEq, Eq)]
+#[derive(Clone, Copy)]
 pub struct LogText<'a>(pub JsonStep<'a>);
 
 /// The letter of an actor.

@@ -1,7 +1,7 @@
 //! An attempt to lock a page.
 
 /// What came of an attempt to lock a page.
-#[derive(Clone, Copy, Debug, PartialEq, Eq)]
+#[derive(Clone, Copy, PartialEq, Eq)]
 pub enum Attempt {
     /// The transaction has the lock.
     Granted,

@@ -79,7 +79,7 @@ steps (l ∷ lines) = step_of l.logged ++ steps lines
 abbrev pub choices_of : List NumberedLine → List Choice
 choices_of lines = map (λ (line : LogLine). line.choice) (steps lines)
 
--- a reader after a line that says this: it was added, if it is there, and there is less room, unless there was no memory
+-- how a reader takes a line: it adds what the line tells, if anything, and has less room, unless the line is refused or there was no memory
 abbrev pub TakesLine : Result (Unit {0}) LogFault → (old new : LogReader) → Result (Option NumberedLine) LogLineFault → Type 0
 TakesLine (Ok u) old new line = (first : Option NumberedLine) × (line ≡ Ok first) × (new.lines.items ≡ old.lines.items ++ listed first)
     × (new.left ≡ old.left - steps_in old.gap (listed first)) × (new.txns ≡ old.txns) × (new.gap ≡ old.gap)

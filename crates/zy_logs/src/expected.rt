@@ -6,7 +6,7 @@ use std::fmt;
 use zy_isa::Choice;
 
 /// The kind of fault that a line has. Each is named as the fault of a scenario text.
-#[derive(Clone, Copy, Debug, PartialEq, Eq)]
+#[derive(Clone, Copy, Debug)]
 pub enum FaultKind {
     /// A word is not known here, or there are too few or too many.
     Word,

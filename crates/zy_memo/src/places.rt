@@ -12,7 +12,7 @@ use zy_pack::codes::{mode_code, node_code};
 use zy_parts::PartTable;
 
 /// What a run reads and writes beside its node and its transaction.
-#[derive(Clone, Copy, Debug, PartialEq, Eq)]
+#[derive(Clone, Copy, PartialEq, Eq)]
 pub enum Scope {
     /// Nothing.
     Own,
@@ -23,7 +23,7 @@ pub enum Scope {
 }
 
 /// What a choice reads of the numbers of a state: those at four places, and one beside them.
-#[derive(Clone, Copy, Debug, PartialEq, Eq)]
+#[derive(Clone, Copy, PartialEq, Eq)]
 pub struct Read {
     pub beside: u32,
     pub first: u32,

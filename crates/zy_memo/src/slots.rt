@@ -18,7 +18,7 @@ struct Slot {
 }
 
 /// What is in a slot.
-#[derive(Clone, Copy, Debug, PartialEq, Eq)]
+#[derive(Clone, Copy)]
 pub enum Look {
     /// Nothing, and nothing in the slots behind it is looked for here.
     Free,

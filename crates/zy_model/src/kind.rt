@@ -1,7 +1,7 @@
 //! The kinds of message between the nodes.
 
 /// The kind of a message.
-#[derive(Clone, Copy, Debug, PartialEq, Eq)]
+#[derive(Clone, Copy, PartialEq, Eq)]
 pub enum Kind {
     /// This is the wireframe: the low keys of all pages.
     Wire,

@@ -1,7 +1,7 @@
 //! One lock.
 
 /// How a transaction holds a page.
-#[derive(Clone, Copy, Debug, PartialEq, Eq)]
+#[derive(Clone, Copy, PartialEq, Eq)]
 pub enum LockKind {
     /// To read: others may read too.
     Shared,
@@ -10,7 +10,7 @@ pub enum LockKind {
 }
 
 /// A transaction's lock on a page.
-#[derive(Clone, Copy, Debug, PartialEq, Eq)]
+#[derive(Clone, Copy, PartialEq, Eq)]
 pub struct Lock {
     pub page: u16,
     pub txn: u8,

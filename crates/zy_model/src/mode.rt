@@ -3,7 +3,7 @@ ghost use Rattle.std.specs.Prelude.{◌≡◌};
 ghost use Rattle.zy_model.specs.Table.{may_start, may_split, is_waiting, may_pull, may_push};
 
 /// A node's mode. Those of a source begin with S, those of a destination with D.
-#[derive(Clone, Copy, Debug, PartialEq, Eq)]
+#[derive(Clone, Copy, PartialEq, Eq)]
 pub enum NodeMode {
     /// It has no wireframe and no page.
     Empty,

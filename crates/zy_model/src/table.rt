@@ -8,7 +8,7 @@ use crate::mode::NodeMode;
 use zy_isa::{Node, Version};
 
 /// What a message does at a node.
-#[derive(Clone, Copy, Debug, PartialEq, Eq)]
+#[derive(Clone, Copy)]
 pub enum MessageLine {
     /// It has no place there: it stays in the link.
     Stray,
@@ -17,7 +17,7 @@ pub enum MessageLine {
 }
 
 /// What `finish` does at a node.
-#[derive(Clone, Copy, Debug, PartialEq, Eq)]
+#[derive(Clone, Copy)]
 pub enum FinishLine {
     /// The node is no source in the dual mode.
     BadMode,

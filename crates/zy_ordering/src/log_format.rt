@@ -1,7 +1,7 @@
 //! How the lines below a scenario are written.
 
 /// How the lines of logs are written.
-#[derive(Clone, Copy, Debug, PartialEq, Eq)]
+#[derive(Clone, Copy)]
 pub enum LogFormat {
     /// As text, in the words of a listing.
     Text,

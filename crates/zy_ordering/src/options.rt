@@ -4,7 +4,7 @@ use crate::log_format::LogFormat;
 use zy_engine::Wording;
 
 /// What an order is looked for by.
-#[derive(Clone, Copy, Debug, PartialEq, Eq)]
+#[derive(Clone, Copy)]
 pub struct OrderOptions {
     /// How the scenario is written that goes out.
     pub wording: Wording,

@@ -13,7 +13,7 @@ use zy_ordering::OrderFault;
 use zy_wire::WireFault;
 
 /// Why a call has no answer.
-#[derive(Clone, Copy, Debug, PartialEq, Eq)]
+#[derive(Clone, Copy, PartialEq, Eq)]
 pub enum Refused {
     /// What it is made with, or what looks at its answer, is out of memory.
     Setup,
@@ -26,7 +26,7 @@ pub enum Refused {
 }
 
 /// The answers of some calls.
-#[derive(Clone, Copy, Debug, PartialEq, Eq)]
+#[derive(Clone, Copy)]
 pub struct Answers {
     /// How many there are.
     pub count: usize,
@@ -35,7 +35,7 @@ pub struct Answers {
 }
 
 /// What is found of some calls.
-#[derive(Clone, Copy, Debug, PartialEq, Eq)]
+#[derive(Clone, Copy)]
 pub enum Findings {
     /// Each answered.
     Answered(Answers),

@@ -1,7 +1,7 @@
 //! Machines, and the steps that they make.
 
 use crate::calls::{Calls, Findings, Refused, prepared, sweep, tested, tested_digest};
-use crate::digest::{Digest, digest_of};
+use crate::digest::digest_of;
 use crate::scenarios::scenario;
 use std::alloc::Global;
 use zy_isa::{Choice, Scenario};
@@ -75,9 +75,7 @@ impl Calls for Stepping {
             return Err(Refused::Fault);
         };
         let entry = stepped(&mut self.machine, choice)?;
-        let mut digest = Digest::new();
-        digest.debug(&entry);
-        Ok(digest.value())
+        Ok(digest_of(&entry))
     }
 
     fn shown(&self) -> u64 {

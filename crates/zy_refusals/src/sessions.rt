@@ -64,7 +64,10 @@ impl Calls for Commanding {
             return Err(Refused::Memory);
         }
         let mut digest = Digest::new();
-        digest.debug(&outcome);
+        match &outcome {
+            Ok(reply) => reply.put_into(&mut digest),
+            Err(fault) => digest.number(*fault as u64),
+        }
         Ok(digest.value())
     }
 
@@ -121,7 +124,9 @@ impl Calls for Turning {
         let actor: Actor = choice.actor();
         let entry = tested(self.board.step_next(actor))?;
         let mut digest = Digest::new();
-        digest.debug(&entry);
+        if let Some(entry) = entry {
+            entry.put_into(&mut digest);
+        }
         Ok(digest.value())
     }
 

@@ -2,7 +2,7 @@
 ghost use Rattle.std.specs.Prelude.{◌<◌};
 
 use crate::calls::{Calls, Findings, Refused, ended, kept, prepared, sweep, tested, tested_digest};
-use crate::digest::{Digest, digest_of, digest_of_bytes};
+use crate::digest::{digest_of, digest_of_bytes};
 use crate::machines::machine;
 use crate::scenarios::scenario;
 use std::alloc::Global;
@@ -268,9 +268,7 @@ impl Calls for Comparison<'_> {
     fn call(&mut self, _place: usize) -> Result<u64, Refused> {
         let scenario = scenario(self.alloc, self.input)?;
         let verdict = tested(compare(self.alloc, self.listing.bytes(), scenario))?;
-        let mut digest = Digest::new();
-        digest.debug(&verdict);
-        Ok(digest.value())
+        Ok(digest_of(&verdict))
     }
 }
 

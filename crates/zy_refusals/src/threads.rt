@@ -2,7 +2,7 @@
 ghost use Rattle.std.specs.Prelude.{◌<◌};
 
 use crate::calls::{Answers, Findings, Refused, again, answered, ended, prepared, tested};
-use crate::digest::Digest;
+use crate::digest::{Digest, Digested};
 use crate::gates::{ACTORS, Noting, SlowB};
 use crate::machines::choices;
 use crate::scenarios::scenario;
@@ -94,7 +94,7 @@ fn digest_of_turns(machine: &Machine) -> u64 {
     for actor in ACTORS {
         for entry in machine.entries() {
             if entry.choice.actor() == actor {
-                digest.debug(&entry.choice);
+                entry.choice.put_into(&mut digest);
             }
         }
     }

@@ -148,7 +148,7 @@ fn take_in(me: &mut NodeStore, message: Message, mode: NodeMode, sent: Option<Ki
 }
 
 /// What is at the front of a link, and the line of the mode table for it.
-#[derive(Clone, Copy, Debug, PartialEq, Eq)]
+#[derive(Clone, Copy)]
 pub(crate) enum Front {
     /// No message.
     Nothing,

@@ -17,7 +17,7 @@ use zy_memo::Vectors;
 use zy_table::Outcome;
 
 /// What is known of where a choice leads.
-#[derive(Clone, Copy, Debug, PartialEq, Eq)]
+#[derive(Clone, Copy)]
 pub enum Successor {
     /// Nothing: no step like it is remembered.
     Unknown,

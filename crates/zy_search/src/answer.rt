@@ -25,7 +25,7 @@ pub struct SearchReport {
 }
 
 /// What came of one choice from a state.
-#[derive(Clone, Copy, Debug, PartialEq, Eq)]
+#[derive(Clone, Copy)]
 pub enum Met {
     /// A state that was reached before, or one more.
     Noted,

@@ -3,7 +3,7 @@
 use zy_isa::Choice;
 
 /// A path that goes on from an earlier one by one choice more.
-#[derive(Clone, Copy, Debug, PartialEq, Eq)]
+#[derive(Clone, Copy)]
 pub struct Branch {
     /// The place of the earlier one.
     pub from: u32,

@@ -5,7 +5,7 @@ ghost use Rattle.zy_search.specs.Choices as spec;
 use zy_isa::Choice;
 
 /// The kinds of choices that a search considers.
-#[derive(Clone, Copy, Debug, PartialEq, Eq)]
+#[derive(Clone, Copy)]
 pub struct ChoiceKinds {
     /// `C start`
     pub start: bool,

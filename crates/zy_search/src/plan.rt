@@ -18,7 +18,7 @@ pub struct Plan {
 }
 
 /// What a search may take.
-#[derive(Clone, Copy, Debug, PartialEq, Eq)]
+#[derive(Clone, Copy)]
 pub struct Limits {
     /// The most states that it may reach.
     pub states: u32,

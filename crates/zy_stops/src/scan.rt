@@ -10,7 +10,7 @@ use zy_machine::{Fault, Machine};
 use zy_table::Outcome;
 
 /// A slot, with what its stop read last.
-#[derive(Clone, Copy, Debug)]
+#[derive(Clone, Copy)]
 pub struct Watched {
     pub slot: Option<Stop>,
     pub before: Reading,

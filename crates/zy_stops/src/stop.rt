@@ -9,7 +9,7 @@ use zy_model::NodeMode;
 use zy_table::{Outcome, Place};
 
 /// A stop: a break or a watch.
-#[derive(Clone, Copy, Debug, PartialEq, Eq)]
+#[derive(Clone, Copy)]
 pub enum Stop {
     /// Where this page changes its place.
     Page(u16),
@@ -22,7 +22,7 @@ pub enum Stop {
 }
 
 /// What a stop reads in a state.
-#[derive(Clone, Copy, Debug, PartialEq, Eq)]
+#[derive(Clone, Copy)]
 pub enum Reading {
     /// Nothing.
     Nothing,

@@ -5,7 +5,7 @@ use crate::outcome::Outcome;
 use zy_model::Kind;
 
 /// What came of a step: its outcome, and the kind of message that was sent.
-#[derive(Clone, Copy, Debug, PartialEq, Eq)]
+#[derive(Clone, Copy)]
 pub struct Answer {
     pub outcome: Outcome,
     pub sent: Option<Kind>,

@@ -7,7 +7,7 @@ use crate::access::Access;
 use zy_isa::{Instr, Reg};
 
 /// What an instruction does, once its registers are read.
-#[derive(Clone, Copy, Debug, PartialEq, Eq)]
+#[derive(Clone, Copy)]
 pub enum Effect {
     /// The register gets this value.
     Sets(Reg, u32),

@@ -2,6 +2,7 @@
 
 mod fakes;
 mod image;
+mod json;
 mod links;
 mod locks;
 mod machine;

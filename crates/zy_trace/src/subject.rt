@@ -2,7 +2,7 @@
 use zy_isa::Node;
 
 /// What has a line of its own in a state.
-#[derive(Clone, Copy, Debug, PartialEq, Eq)]
+#[derive(Clone, Copy)]
 pub enum Subject {
     /// The mode of a node.
     Mode(Node),

@@ -4,7 +4,7 @@ ghost use Rattle.std.specs.Prelude.{◌≡◌, ◌^◌, ◌<◌};
 use crate::node_id::NodeId;
 
 /// A low key, and the number of what begins there: of a page in a node of the lowest level, of a node in any other.
-#[derive(Clone, Copy, Debug, PartialEq, Eq)]
+#[derive(Clone, Copy)]
 pub struct IndexEntry {
     pub low: u16,
     to: u32,

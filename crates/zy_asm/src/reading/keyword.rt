@@ -7,7 +7,7 @@ use zy_isa::{Actor, Operation, Version};
 use zy_text::names::is;
 
 /// What the first word of a line below the header says that the line is.
-#[derive(Clone, Copy, Debug, PartialEq, Eq)]
+#[derive(Clone, Copy)]
 pub enum Keyword {
     /// A line of the header, which has no place below it.
     Header,

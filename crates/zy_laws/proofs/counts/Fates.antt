@@ -19,7 +19,8 @@ use Rattle.zy_table.proofs.InstrEffects.{ends-effect, is_last, jumps_below, targ
 use Rattle.zy_laws.specs.Counts.{Counted}
 use Rattle.zy_table.specs.Run.{program_of}
 use Rattle.zy_table.specs.State.{Txn, View}
-use Rattle.zy_laws.proofs.walk.Events.{Aborts, Begins, Commits, Event, Gets, Inserts, Runs, SumsUp, Writes, Splits, GoesOn, Leads, BySet, ByJump, BySum}
+use Rattle.zy_laws.proofs.walk.Events.{Aborts, Begins, Commits, Event, Gets, Inserts, SumsUp, Writes, Splits, GoesOn}
+use Rattle.zy_laws.proofs.walk.Conditions.{Runs, Leads, BySet, ByJump, BySum}
 use Rattle.zy_laws.proofs.walk.Txns.{at_same, at_either, at_other}
 use Rattle.zy_laws.proofs.walk.Kinds.{quiet_of}
 use Rattle.zy_isa.proofs.ScenarioLemmas.{none_found}

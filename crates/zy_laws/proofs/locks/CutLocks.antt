@@ -19,7 +19,7 @@ use Rattle.zy_table.specs.State.{Leaf, View, other}
 use Rattle.zy_laws.proofs.places.Boundary.{boundary_new, boundary_on}
 use Rattle.zy_table.proofs.PageLists.{owns-lowered, owns-with_page}
 use Rattle.zy_laws.proofs.places.CutPages.{placed_cut}
-use Rattle.zy_laws.proofs.walk.Events.{page, Free, has_lock}
+use Rattle.zy_laws.proofs.walk.Conditions.{page, Free, has_lock}
 use Rattle.zy_laws.proofs.places.Installing.{Placed, placed_front}
 use Rattle.zy_table.proofs.LockLists.{alone-add, alone_more, alone_new, exclusive_holds, holds-add}
 use Rattle.zy_laws.proofs.locks.Runners.{has_lock_locking, home_placed}

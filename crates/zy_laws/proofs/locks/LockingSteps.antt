@@ -25,9 +25,11 @@ use Rattle.zy_laws.proofs.locks.CutLocks.{cut_kept, split_new, split_on}
 use Rattle.zy_laws.proofs.locks.Homes.{begun_event}
 use Rattle.zy_laws.proofs.locks.TxnLocks.{aborted_kept, committed_kept, goes_kept, grown, lock_kept, sum_kept}
 use Rattle.zy_table.proofs.PageLists.{owns-with_page}
-use Rattle.zy_laws.proofs.walk.Events.{arrived, rest, page, Event, lows_after, Rests, Begins, Aborts, SumsUp, Gets}
+use Rattle.zy_laws.proofs.walk.Events.{Event, lows_after, Rests, Begins, Aborts, SumsUp, Gets}
+use Rattle.zy_laws.proofs.walk.Conditions.{arrived, rest, page}
 use Rattle.zy_laws.proofs.walk.Events.{Writes, Inserts, Splits, Commits, Asks, Starts, GotWire, GotReady, GotDual, IsStale, Gives, GotPage, GotLast, GotFinish}
-use Rattle.zy_laws.proofs.walk.Events.{GotAll, GotDone, Finishes, Pushes, GoesOn, is_at}
+use Rattle.zy_laws.proofs.walk.Events.{GotAll, GotDone, Finishes, Pushes, GoesOn}
+use Rattle.zy_laws.proofs.walk.Conditions.{is_at}
 use Rattle.zy_laws.proofs.places.Installing.{Placed}
 use Rattle.zy_table.proofs.LockLists.{locked_of}
 use Rattle.zy_laws.proofs.locks.Locking.{Kept, Locking, Stay, idle_locking, nobody_runs, seen_same, steady, untouched, whole}

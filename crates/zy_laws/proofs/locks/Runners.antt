@@ -7,7 +7,7 @@ use Rattle.zy_model.specs.declared.lock.LockKind.{LockKind}
 use Rattle.zy_model.specs.Wireframe.{page_of}
 use Rattle.zy_table.specs.Change.{locked, txn_at}
 use Rattle.zy_table.specs.State.{View}
-use Rattle.zy_laws.proofs.walk.Events.{Free, has_lock}
+use Rattle.zy_laws.proofs.walk.Conditions.{Free, has_lock}
 use Rattle.zy_laws.proofs.places.Installing.{Placed, placed_front}
 use Rattle.zy_laws.proofs.locks.Locking.{Kept, Locking, lock_taken}
 use Rattle.zy_laws.proofs.places.PageValues.{rest_of}

@@ -20,7 +20,7 @@ use Rattle.zy_table.specs.State.{Txn, View, other}
 use Rattle.zy_laws.proofs.locks.Runners.{within}
 use Rattle.zy_table.proofs.RangeLists.{has_first, key_of_page}
 use Rattle.zy_table.proofs.SharedLocks.{conflict_own}
-use Rattle.zy_laws.proofs.walk.Events.{Free, has_lock, FreeRange, has_locks}
+use Rattle.zy_laws.proofs.walk.Conditions.{Free, has_lock, FreeRange, has_locks}
 use Rattle.zy_laws.proofs.places.Installing.{Placed, owns-installed, placed_installed}
 use Rattle.zy_laws.proofs.locks.Locking.{Kept, Locking, freed, lock_taken, seen_other, seen_step, untouched}
 use Rattle.zy_laws.proofs.serial.LoneRuns.{get_row-put}

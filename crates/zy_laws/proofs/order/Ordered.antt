@@ -16,7 +16,7 @@ use Rattle.zy_table.specs.Order.{NodeInOrder, NumbersRise, RowsRise}
 use Rattle.zy_table.specs.State.{Lock, Message, NodeState, Txn, View}
 use Rattle.zy_table.specs.declared.entry.CommitRecord.{CommitRecord}
 use Rattle.zy_table.specs.declared.outcome.Why.{Why}
-use Rattle.zy_laws.proofs.walk.Events.{has_lock, page, puts}
+use Rattle.zy_laws.proofs.walk.Conditions.{has_lock, page, puts}
 use Rattle.zy_model.proofs.Rows.{Rising-put_row}
 use Rattle.zy_table.proofs.RisingNumbers.{rises_put}
 use Rattle.zy_laws.proofs.order.Rising.{numbers-installed, length-installed, rows_rise-installed, rise_share}

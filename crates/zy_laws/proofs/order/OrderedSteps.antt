@@ -10,7 +10,7 @@ use Rattle.zy_table.specs.Order.{NumbersRise, RowsRise}
 use Rattle.zy_table.specs.State.{Leaf, Message, View}
 use Rattle.zy_laws.proofs.walk.Events.{Aborts, Asks, Begins, Commits, Event, Finishes, Gets, Gives, GotAll, GotDone, GotDual, GotFinish, GotLast, GotPage}
 use Rattle.zy_laws.proofs.walk.Events.{GoesOn, GotReady, GotWire, Inserts, IsStale, Pushes, Rests, SumsUp, Splits, Starts, Writes}
-use Rattle.zy_laws.proofs.walk.Events.{arrived, has_lock, page, rest}
+use Rattle.zy_laws.proofs.walk.Conditions.{arrived, has_lock, page, rest}
 use Rattle.zy_table.proofs.RisingNumbers.{rises_drop}
 use Rattle.zy_laws.proofs.order.Rising.{numbers-lowered, rises_from, rows_at}
 use Rattle.zy_laws.proofs.order.Rising.{rows_rise-lowered, rows_rise-with_page, numbers-without, rows_rise-without, rows_rise-last, length-without}

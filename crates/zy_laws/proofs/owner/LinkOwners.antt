@@ -13,7 +13,7 @@ use Rattle.zy_laws.specs.Journey.{Begins}
 use Rattle.zy_laws.specs.OneOwner.{times}
 use Rattle.zy_table.specs.State.{Leaf, Message, NodeState, View, post, with_me}
 use Rattle.zy_table.specs.Take.{all_here}
-use Rattle.zy_laws.proofs.walk.Events.{rest}
+use Rattle.zy_laws.proofs.walk.Conditions.{rest}
 use Rattle.zy_laws.proofs.owner.MovingPages.{all_below-owns}
 use Rattle.zy_laws.proofs.owner.PageCounts.{owns-times, times_in, times_sent, times_sent-post}
 use Rattle.zy_laws.proofs.owner.Phases.{Is, AllPages, Arrived, AllThere, Resting, Ready_sent, Done_sent, begins_length, done_post}

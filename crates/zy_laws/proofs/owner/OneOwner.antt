@@ -19,7 +19,8 @@ use Rattle.zy_table.specs.Play.{move, opening, opening_leaves, opening_pages, pl
 use Rattle.zy_table.specs.Run.{boundary}
 use Rattle.zy_table.specs.State.{Leaf, State, View, facing, seen_from}
 use Rattle.zy_laws.proofs.walk.Events.{Asks, Commits, Event, Finishes, Gives, GotAll, GotDone, GotDual, GotFinish, GotLast, GotPage}
-use Rattle.zy_laws.proofs.walk.Events.{GotReady, GotWire, IsStale, Pushes, Splits, Starts, arrived, has_lock, page, rest, step_happens}
+use Rattle.zy_laws.proofs.walk.Events.{GotReady, GotWire, IsStale, Pushes, Splits, Starts, step_happens}
+use Rattle.zy_laws.proofs.walk.Conditions.{arrived, has_lock, page, rest}
 use Rattle.zy_laws.proofs.owner.PageCounts.{times-all_leaves, times-installed}
 use Rattle.zy_laws.proofs.owner.Phases.{Is, Resting}
 use Rattle.zy_laws.proofs.walk.PlayPush.{play-keeps}

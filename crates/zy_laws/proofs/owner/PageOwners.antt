@@ -11,7 +11,7 @@ use Rattle.zy_table.specs.Change.{cut, leaves}
 use Rattle.zy_laws.specs.OneOwner.{times}
 use Rattle.zy_table.specs.Pages.{leaf_at, lowered, owns, without}
 use Rattle.zy_table.specs.State.{Leaf, Message, View}
-use Rattle.zy_laws.proofs.walk.Events.{arrived, rest}
+use Rattle.zy_laws.proofs.walk.Conditions.{arrived, rest}
 use Rattle.zy_laws.proofs.walk.ModeLines.{pulls_bare, pulls_taker, sends_source, splits_in_normal}
 use Rattle.zy_laws.proofs.owner.MovingPages.{leaf_at-number}
 use Rattle.zy_laws.proofs.owner.PageCounts.{owns-times, times-lowered, times-with_page, times-without, times_sent, times_sent-post}

@@ -107,7 +107,7 @@ module _ {src dst : NodeState} {out back : List Message} where
   asked_for p (Is In_finish at) s = Is In_finish (returns at (pulls_post back p at.back))
   asked_for p (Is g at) s = cc at.destination
 
-  -- that message is taken
+  -- a pull is taken from the link back
   pub pull_came : {p : ℕ} {ms : List Message} → Phase src dst out back → back ≡ Pull p ∷ ms → Phase src dst out ms
   pull_came (Is In_dual at) e = Is In_dual (returns at (subst (Back In_dual) e at.back))
   pull_came (Is Finish_sent at) e = Is Finish_sent (returns at (subst (Back Finish_sent) e at.back))
@@ -115,7 +115,7 @@ module _ {src dst : NodeState} {out back : List Message} where
   pull_came (Is Done_sent at) e = Is Done_sent (returns at (subst (Back Done_sent) e at.back))
   pull_came (Is g at) e = grind (arith, e, at.back)
 
-  -- the source sends none
+  -- no pull is on its way out
   pub no_pull : {p : ℕ} {ms : List Message} → Phase src dst out back → out ≡ Pull p ∷ ms → ⊥
   no_pull (Is Resting at) e = grind (arith, e, at.out)
   no_pull (Is g at) e = grind (arith, e, at.out)
@@ -161,14 +161,14 @@ module _ {src dst : NodeState} {out back : List Message} where
       Is Finish_sent (record { source = refl; destination = at.destination; lows = at.lows; out = finish_post out at.out; back = at.back })
   finished (Is g at) m = cc at.source
 
-  -- the destination knows that
+  -- the finish is taken
   pub finish_came : {ms : List Message} → Phase src dst out back → dst.mode ≡ DDual → out ≡ Finish ∷ ms
       → Phase src (record dst { mode = DFinish }) ms back
   finish_came (Is Finish_sent at) m e =
       Is In_finish (record { source = at.source; destination = refl; lows = at.lows; out = subst PagesAndFinish e at.out; back = at.back })
   finish_came (Is g at) m e = grind (arith, at.destination, m, e, at.out)
 
-  -- the stage in which it does
+  -- a destination in DFinish is in the stage of that name
   pub in_finish : Phase src dst out back → dst.mode ≡ DFinish → At In_finish src dst out back
   in_finish (Is In_finish at) m = at
   in_finish (Is g at) m = cc at.destination
@@ -178,14 +178,14 @@ module _ {src dst : NodeState} {out back : List Message} where
   done_came (Is Done_sent at) e = returns at (subst PullsAndDone e at.back)
   done_came (Is g at) e = grind (arith, e, at.back)
 
-  -- a page is cut at a node in Normal: it is the source that rests
+  -- a page is cut at a node in Normal, which is the source, and rests
   pub cut_source : (y : NodeState) → Phase src dst out back → src.mode ≡ Normal → y.mode ≡ src.mode
       → Phase y dst out back
   cut_source y (Is Resting at) m same =
       Is Resting (record { source = same ∙ at.source; destination = at.destination; lows = at.lows; out = at.out; back = at.back })
   cut_source y (Is g at) m same = cc at.source
 
-  -- or the destination that has all pages
+  -- or the destination, which has all pages
   pub cut_taker : (y : NodeState) → Phase src dst out back → dst.mode ≡ Normal → y.mode ≡ dst.mode
       → Begins dst.lows y.lows → (AllThere dst → AllThere y) → Phase src y out back
   cut_taker y (Is Done_sent at) m same more there =

@@ -77,7 +77,7 @@ all_owned v i s (Source (Is g at)) = cc at.source
 all_owned v i s (Destination (Is Done_sent at)) = λ p h. owns_from p v.me.pages (at.lows.there.each p h)
 all_owned v i s (Destination (Is g at)) = cc at.destination
 
--- beside a node in Normal nothing runs, and the other wireframe is no longer
+-- where my mode is Normal, nothing runs at the other node, and its wireframe is at most as long as mine
 pub normal_other : (v : View) → Roles v → may_split v.me.mode ≡ true → (is_idle v.them.mode ≡ true) × (length v.them.lows ≤ length v.me.lows)
 normal_other v (Source (Is Resting at)) h = (ap is_idle at.destination, omega (arith, ap length at.lows))
 normal_other v (Source (Is g at)) h = cc at.source

@@ -2,7 +2,7 @@
 use Rattle.std.proofs.Common.{ap, refl, subst, sym, false, ℕ, ◌∙◌, ◌≡◌}
 use Rattle.zy_model.specs.declared.lock.LockKind.{LockKind}
 use Rattle.zy_table.specs.Change.{locked}
-use Rattle.zy_laws.proofs.walk.Events.{has_lock}
+use Rattle.zy_laws.proofs.walk.Conditions.{has_lock}
 use Rattle.std.specs.Prelude.{if◌then◌else◌, nat_lt}
 use Rattle.std.proofs.lemmas.Bool.{false≢true}
 use Rattle.zy_model.specs.Families.{is_bare}

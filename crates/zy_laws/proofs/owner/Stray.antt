@@ -21,7 +21,7 @@ knows_out : (g : Stage) (lows : List ℕ) (m : Message) (ms : List Message) (all
 knows_out Resting lows (Wire xs) ms true h line = grind (arith, h, line)
 knows_out g lows m ms all h line = grind (arith, h, line)
 
--- and the source's mode that of the link back
+-- at each stage the source's mode knows the front of the link back
 knows_back : (g : Stage) (m : Message) (ms : List Message) (all : Bool) → Back g (m ∷ ms) → on_message (source_mode g) (kind_of m) all ≡ Stray → ⊥
 knows_back Resting (Wire xs) ms true h line = grind (arith, h, line)
 knows_back g m ms all h line = grind (arith, h, line)

@@ -8,7 +8,7 @@ use Rattle.zy_table.specs.Database.{sent_leaves}
 use Rattle.zy_table.specs.Pages.{leaf_at, owns, with_page, without}
 use Rattle.zy_table.specs.State.{Leaf, Message, View}
 use Rattle.zy_laws.proofs.places.CutPages.{placed-with_page}
-use Rattle.zy_laws.proofs.walk.Events.{arrived, rest}
+use Rattle.zy_laws.proofs.walk.Conditions.{arrived, rest}
 use Rattle.zy_laws.proofs.places.Installing.{OnPage, Placed, placed_append, placed_front}
 use Rattle.zy_laws.proofs.locks.Locking.{whole}
 use Rattle.zy_laws.proofs.owner.MovingPages.{sent_leaves-append}

@@ -17,7 +17,7 @@ use Rattle.zy_table.specs.Pages.{lowered, owns, rows_of, with_page}
 use Rattle.zy_table.specs.State.{View, other}
 use Rattle.zy_model.proofs.Parted.{get_row-rows_below, get_row-rows_from, length-filter}
 use Rattle.zy_laws.proofs.room.EachPage.{Each, each_append, each_at, each_both, each_front, each_in, each_lowered, each_map, each_with_page}
-use Rattle.zy_laws.proofs.walk.Events.{Free, has_lock}
+use Rattle.zy_laws.proofs.walk.Conditions.{Free, has_lock}
 use Rattle.zy_laws.proofs.room.Fit.{Fit, Room, Sized}
 use Rattle.zy_laws.proofs.locks.Locking.{Kept, nobody_runs}
 use Rattle.zy_laws.proofs.order.Rising.{rises_below, rises_from}

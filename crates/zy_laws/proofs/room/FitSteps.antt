@@ -30,8 +30,10 @@ use Rattle.zy_laws.proofs.room.CutFit.{cut_fit}
 use Rattle.zy_laws.proofs.locks.CutLocks.{split_new, split_on}
 use Rattle.zy_laws.proofs.room.EachPage.{Each, each_append, each_at, each_both, each_front, each_installed, each_map, each_with_page, each_without}
 use Rattle.zy_laws.proofs.walk.Events.{Aborts, Begins, Commits, Event, Gets, Inserts, SumsUp, Writes, Splits}
-use Rattle.zy_laws.proofs.walk.Events.{Gives, GotPage, GotLast, Pushes, has_lock, page, puts, lows_after, arrived}
-use Rattle.zy_laws.proofs.walk.Events.{rest, GoesOn, is_at}
+use Rattle.zy_laws.proofs.walk.Events.{Gives, GotPage, GotLast, Pushes, lows_after}
+use Rattle.zy_laws.proofs.walk.Conditions.{has_lock, page, puts, arrived}
+use Rattle.zy_laws.proofs.walk.Events.{GoesOn}
+use Rattle.zy_laws.proofs.walk.Conditions.{rest, is_at}
 use Rattle.zy_laws.proofs.room.Fit.{Fit, Room, Sized, commit_room, fit_acts, fit_stays, put_room}
 use Rattle.zy_table.proofs.LockLists.{exclusive_holds}
 use Rattle.zy_laws.proofs.locks.Locking.{Kept}

@@ -29,7 +29,7 @@ use Rattle.zy_table.specs.Run.{is_there, program_of, value_for}
 use Rattle.zy_table.specs.State.{Lock, Txn, View}
 use Rattle.zy_model.specs.Wireframe.{page_of}
 use Rattle.zy_model.proofs.Longer.{page_of-cut}
-use Rattle.zy_laws.proofs.walk.Events.{sum_at, value_at, Free, FreeRange, Leads, BySet, ByJump, BySum}
+use Rattle.zy_laws.proofs.walk.Conditions.{sum_at, value_at, Free, FreeRange, Leads, BySet, ByJump, BySum}
 use Rattle.zy_laws.proofs.serial.Following.{Follows, follows_same}
 use Rattle.zy_table.proofs.LockLists.{holds_more, holds_new}
 use Rattle.zy_table.proofs.RangeLists.{has_either, on_range_page, total_same}

@@ -14,7 +14,7 @@ use Rattle.zy_laws.specs.OneOwner.{times}
 use Rattle.zy_table.specs.Pages.{leaf_at, owns, rows_of, with_page, without}
 use Rattle.zy_table.specs.State.{Leaf, Message, View}
 use Rattle.zy_laws.proofs.serial.CutValues.{found-with_page, rows_of-far}
-use Rattle.zy_laws.proofs.walk.Events.{arrived, rest}
+use Rattle.zy_laws.proofs.walk.Conditions.{arrived, rest}
 use Rattle.zy_laws.proofs.places.Installing.{OnPage, Placed, found, found-append, get-leaves, none_else, not_found, or_else_none, placed_front}
 use Rattle.zy_laws.proofs.locks.Locking.{whole}
 use Rattle.zy_laws.proofs.serial.LoneRuns.{or_else}

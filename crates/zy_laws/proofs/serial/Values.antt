@@ -14,7 +14,8 @@ use Rattle.zy_table.specs.declared.entry.CommitRecord.{CommitRecord}
 use Rattle.zy_laws.proofs.serial.Committing.{committed_list}
 use Rattle.zy_laws.proofs.serial.CutValues.{cut_db}
 use Rattle.zy_laws.proofs.walk.Events.{Commits, Event, Gives, GotLast, GotPage}
-use Rattle.zy_laws.proofs.walk.Events.{Pushes, Splits, arrived, has_lock, page, rest, step_happens}
+use Rattle.zy_laws.proofs.walk.Events.{Pushes, Splits, step_happens}
+use Rattle.zy_laws.proofs.walk.Conditions.{arrived, has_lock, page, rest}
 use Rattle.zy_laws.proofs.locks.Locking.{Kept, whole}
 use Rattle.zy_laws.proofs.serial.MovedValues.{arrived_db, leaves_db, same_db}
 use Rattle.zy_laws.proofs.owner.MovingPages.{sent_bare}

@@ -26,8 +26,10 @@ use Rattle.zy_laws.proofs.locks.LockingSteps.{wire_front}
 use Rattle.zy_laws.proofs.owner.Roles.{Inv, normal_other, turned, turned_inv}
 use Rattle.zy_laws.proofs.serial.Committing.{committed_list, committed_txns}
 use Rattle.zy_laws.proofs.sources.Sorting.{keeps_commits, sorted_first, sorted_last, sorts, sorted_after, then_starts, then_still}
-use Rattle.zy_laws.proofs.walk.Events.{Event, Begins, Aborts, GoesOn, Gets, Runs, SumsUp, Writes, Inserts, Splits, Commits, Asks, Starts, GotWire, GotReady}
-use Rattle.zy_laws.proofs.walk.Events.{GotDual, IsStale, Gives, GotPage, GotLast, GotFinish, GotAll, GotDone, Finishes, Pushes, is_at}
+use Rattle.zy_laws.proofs.walk.Events.{Event, Begins, Aborts, GoesOn, Gets, SumsUp, Writes, Inserts, Splits, Commits, Asks, Starts, GotWire, GotReady}
+use Rattle.zy_laws.proofs.walk.Conditions.{Runs}
+use Rattle.zy_laws.proofs.walk.Events.{GotDual, IsStale, Gives, GotPage, GotLast, GotFinish, GotAll, GotDone, Finishes, Pushes}
+use Rattle.zy_laws.proofs.walk.Conditions.{is_at}
 use Rattle.zy_laws.proofs.walk.Kinds.{in_place_of, quiet_of}
 use Rattle.zy_laws.proofs.walk.Txns.{active_off, at_other, at_same, at_self, new_off}
 

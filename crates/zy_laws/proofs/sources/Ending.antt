@@ -38,7 +38,7 @@ use Rattle.zy_laws.proofs.serial.LoneRuns.{Lone, get-laid, or_else}
 use Rattle.zy_laws.proofs.sources.Aside.{Off, aside_fewer, aside_inside, aside_kept, aside_outside, aside_push, aside_registers, lone_end}
 use Rattle.zy_laws.proofs.sources.Aside.{registers_both, registers_parts, serial-append}
 use Rattle.zy_laws.proofs.sources.Halves.{Divided, page_here, base, follows_agree}
-use Rattle.zy_laws.proofs.walk.Events.{Runs}
+use Rattle.zy_laws.proofs.walk.Conditions.{Runs}
 use Rattle.zy_laws.proofs.walk.Txns.{IsAt, Stands, active_off, at_other, at_self, ended_far}
 use Rattle.zy_laws.proofs.wireframe.OneWireframe.{one_of}
 

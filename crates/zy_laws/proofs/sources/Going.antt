@@ -44,7 +44,7 @@ use Rattle.zy_laws.proofs.serial.FollowingRuns.{read_value, sum_value, there_val
 use Rattle.zy_laws.proofs.serial.LoneRuns.{lone_at, lone_effect, or_else}
 use Rattle.zy_laws.proofs.sources.Aside.{aside_fewer, serial-append}
 use Rattle.zy_laws.proofs.sources.Halves.{Divided, page_here, base, base_here, half_stays}
-use Rattle.zy_laws.proofs.walk.Events.{Free, FreeRange, Leads, Runs, has_lock, has_locks, sum_at, value_at}
+use Rattle.zy_laws.proofs.walk.Conditions.{Free, FreeRange, Leads, Runs, has_lock, has_locks, sum_at, value_at}
 use Rattle.zy_laws.proofs.walk.Kinds.{Quiet}
 use Rattle.zy_laws.proofs.walk.ModeLines.{splits_in_normal}
 use Rattle.zy_laws.proofs.walk.Txns.{IsAt, Stands, active_off, at_other, at_same, at_self, ended_far, new_off, not_both_nodes, not_new}

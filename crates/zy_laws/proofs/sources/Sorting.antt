@@ -30,7 +30,8 @@ use Rattle.zy_laws.proofs.sources.Going.{starts_divided, stays_divided, sum_on, 
 use Rattle.zy_laws.proofs.sources.Halves.{Divided}
 use Rattle.zy_laws.proofs.walk.Events.{Event, Rests, Begins, Aborts, GoesOn, Gets, SumsUp, Writes, Inserts, Splits, Commits, Asks, Starts, GotWire, GotReady}
 use Rattle.zy_laws.proofs.walk.Events.{GotDual, IsStale, Gives, GotPage, GotLast, GotFinish, GotAll, GotDone, Finishes, Pushes}
-use Rattle.zy_laws.proofs.walk.Events.{Starting, is_at, lows_after, sum_at, value_at}
+use Rattle.zy_laws.proofs.walk.Events.{lows_after}
+use Rattle.zy_laws.proofs.walk.Conditions.{Starting, is_at, sum_at, value_at}
 use Rattle.zy_laws.proofs.walk.Kinds.{Quiet, of_txn, quiet_of}
 
 -- a page that was not here is not here without another one

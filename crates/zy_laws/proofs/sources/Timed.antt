@@ -16,7 +16,8 @@ use Rattle.zy_laws.specs.SourceFirst.{Sorted}
 use Rattle.zy_laws.proofs.locks.Locking.{Kept}
 use Rattle.zy_laws.proofs.sources.Places.{NoneIs}
 use Rattle.zy_laws.proofs.sources.Sorting.{keeps_commits, sorted_after, sorted_first, sorted_last, then_starts, then_still}
-use Rattle.zy_laws.proofs.walk.Events.{Event, Begins, Commits, Starts, is_at}
+use Rattle.zy_laws.proofs.walk.Events.{Event, Begins, Commits, Starts}
+use Rattle.zy_laws.proofs.walk.Conditions.{is_at}
 use Rattle.zy_laws.proofs.walk.Txns.{IsAt, active_off}
 use Rattle.zy_laws.proofs.sources.Beginnings.{back, back_begun, home_away, no_init, unready}
 

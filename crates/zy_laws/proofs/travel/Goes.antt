@@ -20,7 +20,8 @@ use Rattle.zy_table.specs.Pages.{leaf_at, lowered, owns, with_page}
 use Rattle.zy_table.specs.Run.{boundary}
 use Rattle.zy_table.specs.State.{Leaf, Message, NodeState, View, other}
 use Rattle.zy_table.proofs.PageLists.{owns-lowered, owns-with_page}
-use Rattle.zy_laws.proofs.walk.Events.{Told, Commits, Event, Gives, GotLast, GotPage, Pushes, Splits, has_lock, page, rest}
+use Rattle.zy_laws.proofs.walk.Events.{Told, Commits, Event, Gives, GotLast, GotPage, Pushes, Splits}
+use Rattle.zy_laws.proofs.walk.Conditions.{has_lock, page, rest}
 use Rattle.zy_laws.proofs.places.Installing.{owns-installed}
 use Rattle.zy_laws.proofs.owner.MovingPages.{leaf_at-number, owns-sent_post, owns-without, owns-without_other, sent_bare}
 use Rattle.zy_laws.proofs.owner.LinkOwners.{pulled_inv}

@@ -47,7 +47,7 @@ begins_at Wire_sent lows dst h = inl h
 begins_at Done_sent lows dst h = inr h.begins
 begins_at g lows dst h = inr (no_more _ _ h)
 
--- and are the same until that one is Normal
+-- at each stage the destination has no low keys, or is Normal, or has those of the source
 same_at : (g : Stage) (lows : List ℕ) (dst : NodeState) → Lows g lows dst → (dst.lows ≡ []) ⊎ ((destination_mode g ≡ Normal) ⊎ (dst.lows ≡ lows))
 same_at Resting lows dst h = inl h
 same_at Wire_sent lows dst h = inl h
@@ -66,7 +66,7 @@ sent_at Finish_sent src (Finish ∷ ms) mode h = sent_at In_finish src ms mode h
 sent_at In_finish src (Page leaf ∷ ms) mode h = sent_at In_finish src ms mode h
 sent_at g src (m ∷ ms) mode h = grind (arith, h)
 
--- none goes back
+-- no wireframe is on its way back
 back_at : (g : Stage) (dst : NodeState) (ms : List Message) → Back g ms → Sent dst ms
 back_at g dst [] h = tt
 back_at Ready_sent dst ms h = subst (Sent dst) (sym h) tt

@@ -23,13 +23,11 @@ fn a_loaded_scenario_takes_other_choices(rt: HostRuntime) -> Result<(), Fail> {
     let others = [Choice::Start, Choice::Take(Node::B)];
     let scenario = load(rt.alloc(), IMAGE.as_slice())?;
     let other = with_choices(scenario, others.as_slice().to_vec(rt.alloc())?)?;
-    assert_eq!(rt; other.choices(), others.as_slice());
+    assert!(rt; other.choices() == others.as_slice());
     let strange = [Choice::Start, Choice::Begin(1)];
-    for (choices, fault) in [
-        ([Choice::Start; 4097].as_slice(), LoadFault::ChoiceCount),
-        (strange.as_slice(), LoadFault::Choice(1)),
-    ] {
-        assert_eq!(rt; fault_of_choices(rt.alloc(), choices)?, Some(fault));
-    }
+    let many = fault_of_choices(rt.alloc(), [Choice::Start; 4097].as_slice())?;
+    assert!(rt; matches!(many, Some(LoadFault::ChoiceCount)));
+    let stray = fault_of_choices(rt.alloc(), strange.as_slice())?;
+    assert!(rt; matches!(stray, Some(LoadFault::Choice(1))));
     Ok(())
 }

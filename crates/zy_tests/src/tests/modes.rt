@@ -77,7 +77,7 @@ fn check_messages(rt: &impl Abort, table: &[&[u8; 7]; 8], all_here: bool) {
                     *kind,
                     *want
                 ),
-                "{mode:?} {kind:?}"
+                "{line:?}, {want}"
             );
         }
     }
@@ -92,21 +92,13 @@ fn every_message_in_every_mode(rt: HostRuntime) {
 #[test]
 fn finish_in_every_mode(rt: HostRuntime) {
     for mode in &MODES {
-        let dual = *mode == NodeMode::SDual;
-        let idle = if dual {
-            FinishLine::Finishing
+        let lines = (on_finish(*mode, false), on_finish(*mode, true));
+        let is_right = if *mode == NodeMode::SDual {
+            matches!(lines, (FinishLine::Finishing, FinishLine::Active))
         } else {
-            FinishLine::BadMode
+            matches!(lines, (FinishLine::BadMode, FinishLine::BadMode))
         };
-        let busy = if dual {
-            FinishLine::Active
-        } else {
-            FinishLine::BadMode
-        };
-        assert!(rt;
-            on_finish(*mode, false) == idle && on_finish(*mode, true) == busy,
-            "{mode:?}"
-        );
+        assert!(rt; is_right, "{}", digit(*mode));
     }
 }
 
@@ -136,16 +128,16 @@ fn every_pair_of_modes(rt: HostRuntime) {
         for (b, want) in MODES.iter().zip(line.iter()) {
             let starts = *a == NodeMode::Normal && *b == NodeMode::Empty;
             let start = if starts { b'A' } else { b'.' };
-            assert!(rt; letter(home_of(*a, *b)) == *want, "{a:?} {b:?}");
+            assert!(rt; letter(home_of(*a, *b)) == *want, "{line:?}, {want}");
             assert!(rt;
                 letter(on_start(*a, *b, Version::One)) == start,
-                "{a:?} {b:?}"
+                "{line:?}, {want}"
             );
             let turned = *a == NodeMode::Empty && *b == NodeMode::Normal;
             let start = if turned { b'B' } else { start };
             assert!(rt;
                 letter(on_start(*a, *b, Version::Two)) == start,
-                "{a:?} {b:?}"
+                "{line:?}, {want}"
             );
         }
     }

@@ -64,12 +64,10 @@ fn a_scenario_takes_other_choices(rt: HostRuntime) {
     };
     assert!(rt; kept);
     let strange = [Choice::Begin(1), Choice::Run(Node::B, 2)];
-    for (choices, fault) in [
-        ([Choice::Start; 4097].as_slice(), ScenarioFault::ChoiceCount),
-        (strange.as_slice(), ScenarioFault::Choice(1)),
-    ] {
-        assert_eq!(rt; fault_of_choices(rt.alloc(), choices), Some(fault));
-    }
+    let many = fault_of_choices(rt.alloc(), [Choice::Start; 4097].as_slice());
+    assert!(rt; matches!(many, Some(ScenarioFault::ChoiceCount)));
+    let stray = fault_of_choices(rt.alloc(), strange.as_slice());
+    assert!(rt; matches!(stray, Some(ScenarioFault::Choice(1))));
 }
 
 #[test]

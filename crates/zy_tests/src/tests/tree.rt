@@ -10,7 +10,7 @@ const PAGES: u16 = 512;
 const WIDTH: u16 = 128;
 
 /// In what order the low keys come.
-#[derive(Clone, Copy, Debug, PartialEq, Eq)]
+#[derive(Clone, Copy)]
 enum Order {
     Rising,
     Falling,

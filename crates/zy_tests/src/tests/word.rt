@@ -19,8 +19,8 @@ fn each_instruction_has_its_word(rt: HostRuntime) {
         (Instr::Abort, [7, 0, 0, 0, 0, 0, 0, 0]),
         (Instr::Sum(Reg::R0, Reg::R1), [8, 0, 1, 0, 0, 0, 0, 0]),
     ] {
-        assert_eq!(rt; encode(instr), word, "{instr:?}");
-        assert_eq!(rt; decode(word), Some(instr), "{instr:?}");
+        assert_eq!(rt; encode(instr), word);
+        assert!(rt; matches!(decode(word), Some(found) if encode(found) == word), "{word:?}");
     }
 }
 
@@ -48,6 +48,6 @@ fn other_bytes_are_no_word(rt: HostRuntime) {
         [9, 0, 0, 0, 0, 0, 0, 0],
         [255, 255, 255, 255, 255, 255, 255, 255],
     ] {
-        assert_eq!(rt; decode(word), None);
+        assert!(rt; decode(word).is_none(), "{word:?}");
     }
 }

@@ -1,15 +1,9 @@
 //! Texts of JSON from outside: escapes, surrogates, white space, depth, a byte order mark; and the words of faults.
 
-use crate::faults::JsonFault;
-use crate::field::Member;
-use crate::plain::PlainStep;
-use crate::reading::read;
-use crate::step::{JsonStep, LogText};
-use crate::writing::write;
-use json::Scratch;
 use std::test::Fail;
 use zy_io::{Line, LineBuffer};
 use zy_isa::Actor;
+use zy_json::{JsonFault, JsonStep, LogText, Member, PlainStep, Scratch, read, write};
 
 /// Lines, and the line of a log that each tells.
 const LINES: [(&str, &str); 6] = [
@@ -108,7 +102,7 @@ fn faults_are_found(rt: HostRuntime) {
     let mut scratch = Scratch::new(rt.alloc());
     for (line, want) in FAULTS {
         let answer = read(rt.alloc(), &mut scratch, line);
-        assert!(rt; answer == Err(want), "{want:?}");
+        assert!(rt; answer.err() == Some(want), "{want:?}");
     }
 }
 
