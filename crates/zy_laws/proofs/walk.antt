@@ -2,6 +2,7 @@
 pub mod ModeLines
 pub mod Txns
 pub mod PlayPush
+pub mod Conditions
 pub mod Events
 pub mod Kinds
 pub mod Reordered

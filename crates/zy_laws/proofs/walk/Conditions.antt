@@ -21,7 +21,7 @@ use Rattle.zy_table.specs.State.{View, Leaf, Message, Txn, with_me}
 use Rattle.zy_model.specs.Wireframe.{page_of}
 use Rattle.zy_table.specs.Numbers.{has, least}
 use Rattle.zy_table.specs.Pages.{owns}
-use Rattle.zy_table.specs.Change.{begun, did, txn_at, locked, shares, with_reg, with_arrived}
+use Rattle.zy_table.specs.Change.{did, txn_at, locked, shares, with_reg, with_arrived}
 use Rattle.zy_table.specs.Client.{is_new, is_active}
 use Rattle.zy_table.specs.declared.access.Access.TheVariants as access
 use Rattle.zy_table.specs.declared.effect.Effect.TheVariants as effect
