@@ -26,6 +26,11 @@ pub fn write_run<K: Sink>(
     }) }
 {
     let machine = Machine::run_all(alloc, scenario)?;
-    write_listing(alloc, &machine, sink)?;
-    Ok(machine)
+    match write_listing(alloc, &machine, sink) {
+        Ok(()) => Ok(machine),
+        Err(fault) => {
+            machine.discard();
+            Err(fault)
+        }
+    }
 }

@@ -1,4 +1,5 @@
 //! The words of the machine's plain types.
+ghost use Rattle.std.specs.Prelude.{◌≡◌};
 ghost use Rattle.zy_table.specs.declared.outcome.Outcome.TheVariants as outcome;
 ghost use Rattle.zy_listing.specs.Texts.{kind_text, link_word, mode_word, outcome_text, place_text, why_text};
 
@@ -114,15 +115,22 @@ impl Line for KindText {
     ghost text = { λ k. kind_text k.0 };
 
     fn append(&self, line: &mut LineBuffer) -> Result<(), AllocError> {
-        match self.0 {
-            Kind::Wire => "wire".append(line),
-            Kind::Ready => "ready".append(line),
-            Kind::Dual => "dual".append(line),
-            Kind::Pull => "pull".append(line),
-            Kind::Page => "page".append(line),
-            Kind::Finish => "finish".append(line),
-            Kind::Done => "done".append(line),
-        }
+        kind_word(self.0).append(line)
+    }
+}
+
+/// The word of a kind of message.
+fn kind_word(kind: Kind) -> &'static str
+    ensures { result.now ≡ kind_text kind }
+{
+    match kind {
+        Kind::Wire => "wire",
+        Kind::Ready => "ready",
+        Kind::Dual => "dual",
+        Kind::Pull => "pull",
+        Kind::Page => "page",
+        Kind::Finish => "finish",
+        Kind::Done => "done",
     }
 }
 
@@ -134,16 +142,23 @@ impl Line for ModeText {
     ghost text = { λ m. mode_word m.0 };
 
     fn append(&self, line: &mut LineBuffer) -> Result<(), AllocError> {
-        match self.0 {
-            NodeMode::Empty => "empty".append(line),
-            NodeMode::Normal => "normal".append(line),
-            NodeMode::SInit => "sinit".append(line),
-            NodeMode::SDual => "sdual".append(line),
-            NodeMode::SFinish => "sfinish".append(line),
-            NodeMode::DInit => "dinit".append(line),
-            NodeMode::DDual => "ddual".append(line),
-            NodeMode::DFinish => "dfinish".append(line),
-        }
+        mode_name(self.0).append(line)
+    }
+}
+
+/// The word of a mode.
+fn mode_name(mode: NodeMode) -> &'static str
+    ensures { result.now ≡ mode_word mode }
+{
+    match mode {
+        NodeMode::Empty => "empty",
+        NodeMode::Normal => "normal",
+        NodeMode::SInit => "sinit",
+        NodeMode::SDual => "sdual",
+        NodeMode::SFinish => "sfinish",
+        NodeMode::DInit => "dinit",
+        NodeMode::DDual => "ddual",
+        NodeMode::DFinish => "dfinish",
     }
 }
 
