@@ -47,7 +47,9 @@ pub fn start(alloc: Global, scenario: Scenario) -> Result<Machine, Fault>
 {
     let ran = Machine::run_all(alloc, scenario)?;
     let whole = ran.share(alloc)?;
-    restart(alloc, &whole)
+    let machine = restart(alloc, &whole);
+    whole.discard();
+    machine
 }
 
 /// A machine of the same scenario that has made no choice of it yet.
