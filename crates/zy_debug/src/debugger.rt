@@ -17,6 +17,7 @@ use crate::command::{Command, DebugFault, Reply, Shown};
 use crate::copies::Copies;
 use std::alloc::{AllocError, Global};
 use std::marker::Model;
+use std::mem::swap;
 use zy_isa::Scenario;
 use zy_machine::Machine;
 use zy_stops::replay::{restart, start};
@@ -256,8 +257,9 @@ impl Debugger {
         ensures kept { result ≡ false → self.new ≡ self.old }
     {
         match self.checkpoints.take(target) {
-            Some(machine) => {
-                self.machine = machine;
+            Some(mut machine) => {
+                swap(&mut self.machine, &mut machine);
+                machine.discard();
                 true
             }
             None => false,
@@ -271,15 +273,15 @@ impl Debugger {
         ensures ok { OnOk result (self.new ≡ goes self.old target) }
         ensures err { OnErr result (self.new ≡ self.old) }
     {
-        match self.nearest(target) {
-            Ok(mut machine) => {
-                self.checkpoints
-                    .replay_to(self.alloc, &mut machine, target)?;
-                self.machine = machine;
-                Ok(())
-            }
-            Err(wanted) => Err(wanted),
+        let mut machine = self.nearest(target)?;
+        let outcome = self
+            .checkpoints
+            .replay_to(self.alloc, &mut machine, target);
+        if outcome.is_ok() {
+            swap(&mut self.machine, &mut machine);
         }
+        machine.discard();
+        outcome
     }
 
     /// A machine at the position that is nearest below or at another: that of the session, a kept one, or the start.
@@ -334,8 +336,10 @@ impl Debugger {
         ensures most { IfOk result (λ found. found.0 ≤ length self.now.scenario.choices) }
     {
         let mut machine = self.machine.copy(self.alloc)?;
-        let slot = cont(self.alloc, &mut machine, self.stops.slots())?;
-        Ok((machine.len(), slot))
+        let slot = cont(self.alloc, &mut machine, self.stops.slots());
+        let position = machine.len();
+        machine.discard();
+        Ok((position, slot?))
     }
 
     /// Goes back to the last position below at which a stop fires, and returns the lowest slot that does; else to the
@@ -370,11 +374,13 @@ impl Debugger {
             return Ok(None);
         }
         let mut machine = restart(self.alloc, &self.machine)?;
-        last_firing(
+        let found = last_firing(
             self.alloc,
             &mut machine,
             self.stops.slots(),
             self.machine.len(),
-        )
+        );
+        machine.discard();
+        found
     }
 }
