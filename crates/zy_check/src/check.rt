@@ -17,7 +17,8 @@ fn write_listing<K: Sink>(alloc: Global, scenario: Scenario, sink: &mut K) -> Re
     ensures { Wrote (K.written sink.old) (K.written sink.new) (K.failures sink.old) (K.failures sink.new) result
         (listing_run scenario) }
 {
-    write_run(alloc, scenario, sink)?;
+    let machine = write_run(alloc, scenario, sink)?;
+    machine.discard();
     Ok(())
 }
 
