@@ -137,7 +137,9 @@ fn write_all_steps<K: Sink>(
     ensures made { OnOk result (machine.new ≡ ran machine.old.scenario machine.old.scenario.choices) }
 {
     let mut before = machine.reopen(alloc)?;
-    write_steps(form, alloc, &mut before, machine, sink, line)
+    let outcome = write_steps(form, alloc, &mut before, machine, sink, line);
+    before.discard();
+    outcome
 }
 
 /// Writes the lines of a machine's state, and whether the serial run agrees with it.
@@ -203,8 +205,13 @@ pub fn write_trace<K: Sink>(
     }) }
 {
     let mut machine = Machine::open(alloc, scenario)?;
-    write_run(alloc, &mut machine, sink)?;
-    Ok(machine)
+    match write_run(alloc, &mut machine, sink) {
+        Ok(()) => Ok(machine),
+        Err(fault) => {
+            machine.discard();
+            Err(fault)
+        }
+    }
 }
 
 /// Makes the choices of a scenario, writes each step as one object with the lines that it changed, and returns the machine that has
@@ -225,6 +232,11 @@ pub fn write_objects<K: Sink>(
 {
     let mut machine = Machine::open(alloc, scenario)?;
     let mut line = LineBuffer::new(alloc);
-    write_all_steps(StepForm::Object, alloc, &mut machine, sink, &mut line)?;
-    Ok(machine)
+    match write_all_steps(StepForm::Object, alloc, &mut machine, sink, &mut line) {
+        Ok(()) => Ok(machine),
+        Err(fault) => {
+            machine.discard();
+            Err(fault)
+        }
+    }
 }
