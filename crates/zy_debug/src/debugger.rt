@@ -274,9 +274,7 @@ impl Debugger {
         ensures err { OnErr result (self.new ≡ self.old) }
     {
         let mut machine = self.nearest(target)?;
-        let outcome = self
-            .checkpoints
-            .replay_to(self.alloc, &mut machine, target);
+        let outcome = self.checkpoints.replay_to(self.alloc, &mut machine, target);
         if outcome.is_ok() {
             swap(&mut self.machine, &mut machine);
         }

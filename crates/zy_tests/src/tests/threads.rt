@@ -392,9 +392,7 @@ fn b_may_be_slow(rt: HostRuntime) -> Result<(), Fail> {
 /// A takes its only choice, and has none left.
 fn check_board(rt: &impl Abort, board: &mut Board) {
     let turn = board.step_next(Actor::A);
-    assert!(rt;
-        turn.map(|entry| entry.map(|entry| entry.outcome)) == Ok(Some(Outcome::NoMessage))
-    );
+    assert!(rt; turn.map(|entry| entry.map(|entry| entry.outcome)) == Ok(Some(Outcome::NoMessage)));
     assert!(rt; board.step_next(Actor::A) == Ok(None));
     assert_eq!(rt; board.cursor(Actor::A), 1);
     assert_eq!(rt; board.cursor(Actor::B), 0);

@@ -20,7 +20,10 @@ fn each_instruction_has_its_word(rt: HostRuntime) {
         (Instr::Sum(Reg::R0, Reg::R1), [8, 0, 1, 0, 0, 0, 0, 0]),
     ] {
         assert_eq!(rt; encode(instr), word);
-        assert!(rt; matches!(decode(word), Some(found) if encode(found) == word), "{word:?}");
+        assert!(rt;
+            matches!(decode(word), Some(found) if encode(found) == word),
+            "{word:?}"
+        );
     }
 }
 
