@@ -57,8 +57,13 @@ fn run_first(alloc: Global, scenario: Scenario, count: usize) -> Result<Machine,
 {
     let mut machine = start(alloc, scenario)?;
     let target = count.min(machine.scenario().choices().len());
-    advance_to(&mut machine, target)?;
-    Ok(machine)
+    match advance_to(&mut machine, target) {
+        Ok(()) => Ok(machine),
+        Err(fault) => {
+            machine.discard();
+            Err(fault)
+        }
+    }
 }
 
 /// The machine of a scenario that has made the choices which are steps already taken.
@@ -216,6 +221,35 @@ fn write_answer<K: Sink>(
     }
 }
 
+/// Looks at the states that further choices lead to from a machine, which has made the choices that are steps already taken,
+/// and writes what goes out of the answer.
+fn search_from<R: Threads + Sync, K: Sink, W: Watch>(
+    rt: &R,
+    alloc: Global,
+    question: Question<'_>,
+    machine: &Machine,
+    sink: &mut K,
+    watch: &mut W,
+) -> Result<SearchReport, TextFault>
+    requires ran { machine.now ≡ history_of question.options.from machine.now.scenario }
+    requires calls { K.failures sink.old < u64.MAX }
+    ensures { WroteAnswer question.entry.options question.entry.sought machine.now.scenario (K.written sink.old)
+        (K.written sink.new) (K.failures sink.old) (K.failures sink.new) result }
+{
+    let Question {
+        input: text,
+        options,
+        sought,
+    } = question;
+    let limits = Limits {
+        states: options.most,
+        threads: options.threads,
+    };
+    let report = search(rt, alloc, machine, sought, limits, watch)?;
+    write_answer(alloc, options.wording, text, machine, &report.answer, sink)?;
+    Ok(report)
+}
+
 /// Makes the choices that are steps already taken of the scenario that the question is about, looks at the states that
 /// further ones lead to, and writes what goes out of the answer.
 fn write_search<R: Threads + Sync, K: Sink, W: Watch>(
@@ -230,19 +264,10 @@ fn write_search<R: Threads + Sync, K: Sink, W: Watch>(
     ensures { WroteAnswer question.entry.options question.entry.sought scenario (K.written sink.old) (K.written sink.new)
         (K.failures sink.old) (K.failures sink.new) result }
 {
-    let Question {
-        input: text,
-        options,
-        sought,
-    } = question;
-    let machine = run_taken(alloc, scenario, options.from)?;
-    let limits = Limits {
-        states: options.most,
-        threads: options.threads,
-    };
-    let report = search(rt, alloc, &machine, sought, limits, watch)?;
-    write_answer(alloc, options.wording, text, &machine, &report.answer, sink)?;
-    Ok(report)
+    let machine = run_taken(alloc, scenario, question.options.from)?;
+    let report = search_from(rt, alloc, question, &machine, sink, watch);
+    machine.discard();
+    report
 }
 
 /// Makes the choices that are steps already taken of the scenario that a question is about, and looks for a state that

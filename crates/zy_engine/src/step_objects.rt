@@ -39,6 +39,11 @@ pub(crate) fn write_objects<K: Sink>(
 {
     let machine = Machine::run_all(alloc, scenario)?;
     let mut line = LineBuffer::new(alloc);
-    AllLines(StepObjects(machine.entries())).write(sink, &mut line)?;
-    Ok(machine)
+    match AllLines(StepObjects(machine.entries())).write(sink, &mut line) {
+        Ok(()) => Ok(machine),
+        Err(fault) => {
+            machine.discard();
+            Err(fault)
+        }
+    }
 }

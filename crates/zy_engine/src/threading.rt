@@ -32,8 +32,13 @@ fn write_threads<R: Threads + Wait + Sync, G: Gate + Sync, K: Sink>(
         (K.failures sink.new) result }
 {
     let machine = run_threads(rt, alloc, scenario, gate)?;
-    write_listing(alloc, &machine, sink)?;
-    Ok(machine)
+    match write_listing(alloc, &machine, sink) {
+        Ok(()) => Ok(machine),
+        Err(fault) => {
+            machine.discard();
+            Err(fault)
+        }
+    }
 }
 
 /// Makes the choices of the scenario that an input stands for by three threads, writes its listing in the order that they
