@@ -84,6 +84,8 @@ impl Search {
         ensures settles { IfOk result (Settles plan.now self.new.reached) }
     {
         let mut machine = plan.start.copy(plan.alloc)?;
-        self.follow(plan, &mut machine, watch)
+        let followed = self.follow(plan, &mut machine, watch);
+        machine.discard();
+        followed
     }
 }

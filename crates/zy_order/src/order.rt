@@ -177,5 +177,7 @@ pub fn order<W: Watch>(
     ensures { IfOk result (λ r. IsAnswer start.now lines.now gaps r.answer) }
 {
     let plan = plan_from(alloc, start, lines, gaps, most)?;
-    report(&plan, watch)
+    let report = report(&plan, watch);
+    plan.start.discard();
+    report
 }

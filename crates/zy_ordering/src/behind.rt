@@ -27,7 +27,9 @@ fn write_extended<K: Sink>(
         (K.failures sink.new) result }
 {
     let machine = Machine::run_all(alloc, scenario)?;
-    write_found(alloc, wording, text, &machine, choices, sink)
+    let written = write_found(alloc, wording, text, &machine, choices, sink);
+    machine.discard();
+    written
 }
 
 /// Writes the scenario of an input, with choices behind its own. The input is a scenario text through its first line whose

@@ -51,6 +51,42 @@ struct LoggedScenario<'a> {
     lines: &'a [NumberedLine],
 }
 
+/// A machine that has made all choices of its scenario, with the scenario's own text and the lines of logs below it.
+#[derive(Clone, Copy)]
+struct LoggedRun<'a> {
+    text: &'a [u8],
+    machine: &'a Machine,
+    lines: &'a [NumberedLine],
+}
+
+/// Looks for an order of the lines of logs behind the choices of a machine, and writes what goes out of the answer.
+fn order_from<K: Sink, W: Watch>(
+    alloc: Global,
+    options: OrderOptions,
+    run: LoggedRun<'_>,
+    sink: &mut K,
+    watch: &mut W,
+) -> Result<OrderReport, TextFault>
+    requires ran { run.machine.now ≡ history_of None run.machine.now.scenario }
+    requires input { CanFollow run.machine.now options.gap run.lines.now }
+    requires calls { K.failures sink.old < u64.MAX }
+    ensures { WroteOrder (IsAnswerOf options run.machine.now.scenario run.lines.now)
+        (K.written sink.old) (K.written sink.new) (K.failures sink.old) (K.failures sink.new) result }
+{
+    let steps = steps(alloc, run.lines)?;
+    let gaps = gaps(alloc, options.gap, run.lines)?;
+    let report = order(alloc, run.machine, &steps, gaps, options.most, watch)?;
+    write_answer(
+        alloc,
+        options.wording,
+        run.text,
+        run.machine,
+        &report.answer,
+        sink,
+    )?;
+    Ok(report)
+}
+
 /// Makes the choices of a scenario, looks for an order of the lines of its logs behind them, and writes what goes out of the
 /// answer.
 fn write_order<K: Sink, W: Watch>(
@@ -70,12 +106,15 @@ fn write_order<K: Sink, W: Watch>(
         scenario,
         lines,
     } = logged;
-    let steps = steps(alloc, lines)?;
-    let gaps = gaps(alloc, options.gap, lines)?;
     let machine = Machine::run_all(alloc, scenario)?;
-    let report = order(alloc, &machine, &steps, gaps, options.most, watch)?;
-    write_answer(alloc, options.wording, text, &machine, &report.answer, sink)?;
-    Ok(report)
+    let run = LoggedRun {
+        text,
+        machine: &machine,
+        lines,
+    };
+    let report = order_from(alloc, options, run, sink, watch);
+    machine.discard();
+    report
 }
 
 /// Answers an input: a scenario text through its first line whose only word is `end`, and below it lines of three logs, mixed in

@@ -21,5 +21,5 @@ returns-in_err-machine g c =
 pub returns : goal.returns
 returns g c =
     subst (λ (sc : Scenario). WroteAnswer c.args.question.options c.args.question.sought sc (g.K.Sink.written c.args.sink.now)
-      (g.K.Sink.written c.search_from-report.new.sink) (g.K.Sink.failures c.args.sink.now) (g.K.Sink.failures c.search_from-report.new.sink)
-      c.search_from-report.result) (ap (λ (h : History). h.scenario) c.in_ok-machine.ensures) c.search_from-report.ensures
+    (g.K.Sink.written c.search_from-report.new.sink) (g.K.Sink.failures c.args.sink.now) (g.K.Sink.failures c.search_from-report.new.sink)
+    c.search_from-report.result) (ap (λ (h : History). h.scenario) c.in_ok-machine.ensures) c.search_from-report.ensures

@@ -30,8 +30,8 @@ returns g c =
     let failures = g.K.Sink.failures in
     let sc = c.args.scenario in
     let w = c.args.wording in
-    subst (λ cs. WroteSome (IsWorded w (reordered sc (cs ++ c.args.choices.now))) (written c.args.sink.now) (written c.write_found.new.sink)
-    (failures c.args.sink.now) (failures c.write_found.new.sink) c.write_found.result) (ran_all (history_of None sc) refl)
+    subst (λ cs. WroteSome (IsWorded w (reordered sc (cs ++ c.args.choices.now))) (written c.args.sink.now) (written c.write_found-written.new.sink)
+    (failures c.args.sink.now) (failures c.write_found-written.new.sink) c.write_found-written.result) (ran_all (history_of None sc) refl)
     (subst (λ (h : History). WroteSome (IsWorded w (reordered h.scenario (take (length h.entries) h.scenario.choices ++ c.args.choices.now)))
-    (written c.args.sink.now) (written c.write_found.new.sink) (failures c.args.sink.now) (failures c.write_found.new.sink) c.write_found.result)
-    c.in_ok-machine.ensures.run c.write_found.ensures)
+    (written c.args.sink.now) (written c.write_found-written.new.sink) (failures c.args.sink.now) (failures c.write_found-written.new.sink) c.write_found-written.result)
+    c.in_ok-machine.ensures.run c.write_found-written.ensures)

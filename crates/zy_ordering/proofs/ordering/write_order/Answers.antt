@@ -1,85 +1,26 @@
--- The answer is that of the search; where there was no memory for it, nothing went out.
-use Rattle.std.proofs.Common.{◌∙◌, List, None, Ok, Err, inl, refl, subst}
+-- What is answered of the machine is answered of its scenario; where there was no memory for it, nothing went out.
+use Rattle.std.proofs.Common.{ap, inl, refl, subst, sym}
 use Rattle.std.proofs.lemmas.Result.{err_from_is_err_and}
-use Rattle.zy_logs.specs.declared.log_line.LogLine.{LogLine}
+use Rattle.zy_isa.specs.Scenario.{Scenario}
 use Rattle.zy_machine.specs.Histories.{History}
-use Rattle.zy_order.specs.Answers.{IsAnswer}
-use Rattle.zy_engine.specs.Searching.{history_of, WroteSome}
-use Rattle.zy_ordering.specs.Ordering.{IsTextOf}
-use Rattle.zy_logs.specs.Logs.{steps}
-use Rattle.zy_ordering.proofs.MissingLemmas.{input_is}
+use Rattle.zy_ordering.specs.Ordering.{CanFollow, IsAnswerOf, WroteOrder}
 use Rattle.zy_ordering.proofs.TakenLemmas.{ran_own}
-use Rattle.zy_ordering.proofs.AnswerLemmas.{wrote_failed}
 use Rattle.zy_ordering.proofs.ordering.write_order.Goals as goal
 
-pub order-requires : goal.order-requires
-order-requires g c =
-    rw (c.in_ok-machine.ensures.run, c.deref.ensures.value, c.in_ok-steps.ensures) (input_is (history_of None c.args.logged.scenario) c.args.options.gap
-    c.args.logged.lines.now c.in_ok-gaps.gaps c.requires.input c.in_ok-gaps.ensures)
+pub order_from-requires-clause-ran : goal.order_from-requires-clause-ran
+order_from-requires-clause-ran g c = ran_own _ c.args.logged.scenario c.in_ok-machine.ensures.run
 
-pub write_answer-requires-clause-ran : goal.write_answer-requires-clause-ran
-write_answer-requires-clause-ran g c = ran_own _ c.args.logged.scenario c.in_ok-machine.ensures.run
-
-pub returns-in_err-steps : goal.returns-in_err-steps
-returns-in_err-steps g c =
-    let p = err_from_is_err_and c.from_residual.result c.from_residual.ensures.1 in
-    rw (p.1, p.2) (inl refl, refl)
-
-pub returns-in_err-gaps : goal.returns-in_err-gaps
-returns-in_err-gaps g c =
-    let p = err_from_is_err_and c.from_residual-in_err-gaps.result c.from_residual-in_err-gaps.ensures.1 in
-    rw (p.1, p.2) (inl refl, refl)
+pub order_from-requires-clause-input : goal.order_from-requires-clause-input
+order_from-requires-clause-input g c =
+    subst (λ (h : History). CanFollow h c.args.options.gap c.args.logged.lines.now) (sym c.in_ok-machine.ensures.run) c.requires.input
 
 pub returns-in_err-machine : goal.returns-in_err-machine
 returns-in_err-machine g c =
-    let p = err_from_is_err_and c.from_residual-in_err-machine.result c.from_residual-in_err-machine.ensures.1 in
+    let p = err_from_is_err_and c.from_residual.result c.from_residual.ensures.1 in
     rw (p.1, p.2) (inl refl, refl)
-
-pub returns-in_err-report : goal.returns-in_err-report
-returns-in_err-report g c =
-    let p = err_from_is_err_and c.from_residual-in_err-report.result c.from_residual-in_err-report.ensures.1 in
-    rw (p.1, p.2) (inl refl, refl)
-
-pub returns-in_err-write_answer : goal.returns-in_err-write_answer
-returns-in_err-write_answer g c =
-    let old = g.K.Sink.written c.args.sink.now in
-    let new = g.K.Sink.written c.write_answer.new.sink in
-    let before = g.K.Sink.failures c.args.sink.now in
-    let after = g.K.Sink.failures c.write_answer.new.sink in
-    let o = c.args.options in
-    let w = o.wording in
-    let numbered = c.args.logged.lines.now in
-    let gaps = c.in_ok-gaps.gaps in
-    let a = c.in_ok-report.report.answer in
-    let fault = c.in_err-write_answer.field-0.0 in
-    let lines = c.deref.ensures.value ∙ c.in_ok-steps.ensures in
-    let is = subst (λ (h : History). IsAnswer h (steps numbered) gaps a) c.in_ok-machine.ensures.run
-    (subst (λ (ls : List LogLine). IsAnswer c.in_ok-machine.machine ls gaps a) lines c.in_ok-report.ensures) in
-    let wrote = subst (λ (h : History). WroteSome {X = Unit {0}} (IsTextOf w h.scenario a) old new before after (Err fault)) c.in_ok-machine.ensures.run
-    c.in_err-write_answer.ensures in
-    let p = err_from_is_err_and c.from_residual-in_err-write_answer.result c.from_residual-in_err-write_answer.ensures.1 in
-    rw (p.1, p.2) (wrote_failed o c.args.logged.scenario numbered gaps a old new before after fault c.in_ok-gaps.ensures is wrote)
 
 pub returns : goal.returns
 returns g c =
-    let old = g.K.Sink.written c.args.sink.now in
-    let new = g.K.Sink.written c.write_answer.new.sink in
-    let before = g.K.Sink.failures c.args.sink.now in
-    let after = g.K.Sink.failures c.write_answer.new.sink in
-    let o = c.args.options in
-    let w = o.wording in
-    let numbered = c.args.logged.lines.now in
-    let gaps = c.in_ok-gaps.gaps in
-    let a = c.in_ok-report.report.answer in
-    let lines = c.deref.ensures.value ∙ c.in_ok-steps.ensures in
-    let is = subst (λ (h : History). IsAnswer h (steps numbered) gaps a) c.in_ok-machine.ensures.run
-    (subst (λ (ls : List LogLine). IsAnswer c.in_ok-machine.machine ls gaps a) lines c.in_ok-report.ensures) in
-    let wrote = subst (λ (h : History). WroteSome (IsTextOf w h.scenario a) old new before after (Ok c.in_ok-write_answer.field-0)) c.in_ok-machine.ensures.run
-    c.in_ok-write_answer.ensures in (
-      (
-        wrote.text,
-        record { gaps = gaps; are = c.in_ok-gaps.ensures; answer = is; is = wrote.is },
-        wrote.wrote.0,
-      ),
-      wrote.wrote.1,
-    )
+    subst (λ (sc : Scenario). WroteOrder (IsAnswerOf c.args.options sc c.args.logged.lines.now) (g.K.Sink.written c.args.sink.now)
+    (g.K.Sink.written c.order_from-report.new.sink) (g.K.Sink.failures c.args.sink.now) (g.K.Sink.failures c.order_from-report.new.sink)
+    c.order_from-report.result) (ap (λ (h : History). h.scenario) c.in_ok-machine.ensures.run) c.order_from-report.ensures
