@@ -34,21 +34,23 @@ pub fn make_again(alloc: Global, format: Format, scenario: &[u8]) -> Result<Mach
 
 /// Makes the choices of a scenario, for the fault that this may end in alone.
 pub fn test_again(alloc: Global, format: Format, scenario: &[u8]) -> Result<(), BenchFault> {
-    make_again(alloc, format, scenario).map(drop)
+    let machine = make_again(alloc, format, scenario)?;
+    machine.discard();
+    Ok(())
 }
 
 /// How many choices a scenario makes.
 pub fn count_again(alloc: Global, format: Format, scenario: &[u8]) -> Result<usize, BenchFault> {
     let machine = make_again(alloc, format, scenario)?;
     let count = machine.len();
-    drop(machine);
+    machine.discard();
     Ok(count)
 }
 
 /// Makes the choices of the scenario of an input, and keeps a line of the listing that the input is to be.
 fn keep_due(alloc: Global, input: &[u8], kept: &mut LineKept) -> Result<(), BenchFault> {
     let machine = run_again(alloc, Format::Text, scenario_part(input), kept)?;
-    drop(machine);
+    machine.discard();
     if kept.is_refused() {
         return Err(BenchFault::Memory);
     }

@@ -264,7 +264,7 @@ fn warn<R: Eprint + AllocGlobal>(
     }
     let machine = make_again(rt.alloc(), format, scenario)?;
     warn_in(rt, &machine, named);
-    drop(machine);
+    machine.discard();
     Ok(())
 }
 

@@ -40,7 +40,7 @@ pub fn go_on(machine: &mut Machine, choices: &[Choice]) -> Result<(), Fault> {
 pub fn explain_again<R: Eprint + AllocGlobal>(rt: &R, format: Format, scenario: &[u8]) {
     if let Ok(machine) = make_again(rt.alloc(), format, scenario) {
         explain(rt, &machine);
-        drop(machine);
+        machine.discard();
     }
 }
 
@@ -81,7 +81,7 @@ fn found_again(
     match go_found(&mut machine, options, found) {
         Ok(()) => Ok(machine),
         Err(fault) => {
-            drop(machine);
+            machine.discard();
             Err(BenchFault::from(fault))
         }
     }
@@ -96,7 +96,7 @@ pub fn explain_found<R: Eprint + AllocGlobal>(
 ) {
     if let Ok(machine) = found_again(rt.alloc(), options, scenario, found) {
         explain(rt, &machine);
-        drop(machine);
+        machine.discard();
     }
 }
 

@@ -125,7 +125,7 @@ impl Furthest {
                 taken: Counts::taken(taken),
             }),
             Err(fault) => {
-                drop(machine);
+                machine.discard();
                 Err(fault)
             }
         }
@@ -157,7 +157,7 @@ impl Furthest {
     fn instead(&self, alloc: Global, line: LogLine) -> Result<Option<Entry>, Fault> {
         let mut machine = self.machine.copy(alloc)?;
         let entry = disagreeing(&mut machine, line);
-        drop(machine);
+        machine.discard();
         entry
     }
 
@@ -213,7 +213,7 @@ impl Furthest {
     fn tell_later<R: Eprint + AllocGlobal>(&self, rt: &R, file: Option<&str>, input: &[u8]) {
         if let Ok(mut machine) = self.machine.copy(rt.alloc()) {
             let later = self.later(&mut machine);
-            drop(machine);
+            machine.discard();
             if let Ok(Some((line, entry))) = later {
                 self.tell_line(rt, file, input, line, &entry);
             }

@@ -129,7 +129,7 @@ fn run<R: Eprint + AllocGlobal + Threads + Wait + Sync, S: Source, W: Write>(
 {
     let machine = shown_run(rt, shown, format, source, input, output)?;
     let status = close_run(rt, &machine, output);
-    drop(machine);
+    machine.discard();
     status
 }
 

@@ -39,6 +39,7 @@ pub fn run<S: Source, K: Sink>(
     ensures writes { OnOk result (K.failures sink.new ≡ K.failures sink.old) }
 {
     let scenario = read_scenario(alloc, source, input)?;
-    write_run(alloc, scenario, sink)?;
+    let machine = write_run(alloc, scenario, sink)?;
+    machine.discard();
     Ok(())
 }

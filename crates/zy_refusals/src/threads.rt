@@ -130,7 +130,7 @@ fn run<R: Threads + Wait + Sync>(
     match tested(run_threads(rt, alloc, scenario, gate)) {
         Ok(machine) => {
             let answer = look_at(alloc, &machine, gate);
-            drop(machine);
+            machine.discard();
             answer
         }
         Err(refused) => Err(refused),
