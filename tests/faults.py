@@ -325,7 +325,7 @@ SCRIPT_FAULTS = [
     script('--take takes a program that is not there', 'zy_bench', 'if [[ -x $(program_of "$1") ]] && note_sources', 'if note_sources', 'build'),
     script('--sum is over zy_first as well', 'zy_bench', 'sum_of zy_bench\n', 'sum_of zy_first\n', 'build'),
     script('build: how long it takes is not said', 'tools/build.py', "    say('by docs/gate.md", "    str('by docs/gate.md", 'build'),
-    script('build: the minutes on several processors are those on one', 'tools/build.py', 'total * 5 / 6 / self.room', 'total * 5 / 6', 'build'),
+    script('build: the minutes on several processors are those on one', 'tools/build.py', 'total * 2 / 3 / self.room', 'total * 2 / 3', 'build'),
     script('build: all of it goes side by side', 'tools/build.py', 'total / 6 + total * 5 / 6 / self.room', 'total / self.room', 'build'),
     script('build: nothing is said of the other commands', 'tools/build.py', "if PROGRAM != 'zy_bench':", 'if False:', 'build'),
     script('build: all crates count as those of the other commands', 'tools/build.py', "needs('zy_bench').keys() - build.done", "needs('zy_bench').keys()", 'build'),

@@ -183,10 +183,10 @@ class Build:
         return True
 
     def estimate(self):
-        """How many minutes the proofs take on one processor, and by estimate on those that are here: about a sixth of it goes one after the other, however
+        """How many minutes the proofs take on one processor, and by estimate on those that are here: about a third of it goes one after the other, however
         many there are."""
         total = sum(self.cost(name) for name in self.needs)
-        return math.ceil(total), math.ceil(total / 6 + total * 5 / 6 / self.room)
+        return math.ceil(total), math.ceil(total / 3 + total * 2 / 3 / self.room)
 
     def outlook(self):
         """How many crates are left, and how long they take at the pace so far."""
