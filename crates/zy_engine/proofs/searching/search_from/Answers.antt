@@ -13,7 +13,7 @@ write_answer-requires-clause-taken g c =
 
 pub returns-in_err-report : goal.returns-in_err-report
 returns-in_err-report g c =
-    let p = err_from_is_err_and c.from_residual-in_err-report.result c.from_residual-in_err-report.ensures.1 in
+    let p = err_from_is_err_and c.from_residual.result c.from_residual.ensures.1 in
     rw (p.1, p.2) (
     nothing_searched c.args.question.options c.args.machine.now.scenario c.args.question.sought (g.K.Sink.written c.args.sink.now) (g.K.Sink.failures c.args.sink.now)
     )

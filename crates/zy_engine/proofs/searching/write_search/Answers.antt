@@ -1,15 +1,11 @@
 -- The answer is that of the search; where there was no memory for it, nothing is known.
-use Rattle.std.proofs.Common.{◌≡◌, ap, refl, subst, sym}
+use Rattle.std.proofs.Common.{ap, subst}
 use Rattle.std.proofs.lemmas.Result.{err_from_is_err_and}
 use Rattle.zy_isa.specs.Scenario.{Scenario}
 use Rattle.zy_machine.specs.Histories.{History}
-use Rattle.zy_engine.specs.Searching.{history_of, WroteAnswer}
+use Rattle.zy_engine.specs.Searching.{WroteAnswer}
 use Rattle.zy_engine.proofs.SearchLemmas.{nothing_searched}
 use Rattle.zy_engine.proofs.searching.write_search.Goals as goal
-
-pub search_from-requires-clause-ran : goal.search_from-requires-clause-ran
-search_from-requires-clause-ran g c =
-    subst (λ (h : History). h ≡ history_of c.args.question.options.from h.scenario) (sym c.in_ok-machine.ensures) refl
 
 pub returns-in_err-machine : goal.returns-in_err-machine
 returns-in_err-machine g c =
