@@ -5,7 +5,7 @@ ghost use Rattle.zy_search.specs.Choices.{considered};
 ghost use Rattle.zy_order.specs.Reaches as spec;
 ghost use Rattle.zy_order.specs.Answers.{IsInput, IsAnswer};
 ghost use Rattle.zy_order.specs.Ways.{AreLogs, AreMatched};
-ghost use Rattle.zy_order.specs.Reaches.{cursors_at, IsFurthestPath, IsPlan, IsUnderWay, Settles, AnswersFor};
+ghost use Rattle.zy_order.specs.Reaches.{cursors_at, Follows, IsFurthestPath, IsPlan, IsUnderWay, Settles, AnswersFor};
 
 use crate::answer::{OrderAnswer, OrderReport, Taken};
 use crate::cursors::Cursors;
@@ -101,14 +101,28 @@ fn report_by(plan: &Plan, reached: &Reached, followed: Followed) -> Result<Order
     }
 }
 
+/// The answer to a plan, by a search that has reached its start alone.
+fn report_from<W: Watch>(
+    plan: &Plan,
+    search: &mut Search,
+    watch: &mut W,
+) -> Result<OrderReport, Fault>
+    requires { Follows plan.now search.old }
+    ensures { IfOk result (λ r. AnswersFor plan.now r.answer) }
+{
+    let followed = search.follow_all(plan, watch)?;
+    report_by(plan, &search.reached, followed)
+}
+
 /// The answer to a plan, with its numbers.
 fn report<W: Watch>(plan: &Plan, watch: &mut W) -> Result<OrderReport, Fault>
     requires { IsPlan plan.now }
     ensures { IfOk result (λ r. AnswersFor plan.now r.answer) }
 {
     let mut search = Search::new(plan)?;
-    let followed = search.follow_all(plan, watch)?;
-    report_by(plan, &search.reached, followed)
+    let report = report_from(plan, &mut search, watch);
+    drop(search);
+    report
 }
 
 /// All kinds of choices: a step of any kind may be missing.

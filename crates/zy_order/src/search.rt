@@ -43,12 +43,17 @@ impl Search {
     {
         let digest = digest_of(Cursors::at_start(), &plan.start);
         let reached = Reached::new(plan.alloc, digest)?;
-        let shelf = Shelf::sized(plan.alloc, &plan.start, MOST_SPOTS, MAX_CHOICES)?;
         let twin = plan.start.copy(plan.alloc)?;
-        Ok(Search {
-            reached,
-            shelf,
-            twin,
-        })
+        match Shelf::sized(plan.alloc, &plan.start, MOST_SPOTS, MAX_CHOICES) {
+            Ok(shelf) => Ok(Search {
+                reached,
+                shelf,
+                twin,
+            }),
+            Err(fault) => {
+                twin.discard();
+                Err(fault)
+            }
+        }
     }
 }

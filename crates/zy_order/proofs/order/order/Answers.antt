@@ -9,5 +9,5 @@ use Rattle.zy_order.proofs.order.order.Goals as goal
 pub returns : goal.returns
 returns g c =
     let p = c.in_ok-plan.plan in
-    IfOk-weaker c.report.result (λ (r : OrderReport). AnswersFor p r.answer) (λ (r : OrderReport). IsAnswer c.args.start.now c.args.lines.now c.args.gaps r.answer)
-    (λ r a. answers p c.args.start.now c.args.lines.now c.args.gaps r.answer c.in_ok-plan.ensures.start c.in_ok-plan.ensures.logs c.in_ok-plan.ensures.plan.gaps a) c.report.ensures
+    IfOk-weaker c.report-report.result (λ (r : OrderReport). AnswersFor p r.answer) (λ (r : OrderReport). IsAnswer c.args.start.now c.args.lines.now c.args.gaps r.answer)
+    (λ r a. answers p c.args.start.now c.args.lines.now c.args.gaps r.answer c.in_ok-plan.ensures.start c.in_ok-plan.ensures.logs c.in_ok-plan.ensures.plan.gaps a) c.report-report.ensures

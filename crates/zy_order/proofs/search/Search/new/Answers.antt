@@ -2,9 +2,9 @@
 use Rattle.zy_order.proofs.LoopLemmas.{begins}
 use Rattle.zy_order.proofs.search.Search.new.Goals as goal
 
-pub returns : goal.returns
-returns c =
+pub returns-in-Ok : goal.returns-in-Ok
+returns-in-Ok c =
     let r = c.in_ok-reached.ensures in
-    let shelf = c.in_ok-shelf.ensures in
-    begins c.args.plan.now (record { reached = c.in_ok-reached.reached; shelf = c.in_ok-shelf.shelf; twin = c.in_ok-twin.twin }) c.requires r.paths r.cursors
+    let shelf = c.in-Ok.ensures in
+    begins c.args.plan.now (record { reached = c.in_ok-reached.reached; shelf = c.in-Ok.shelf; twin = c.in_ok-twin.twin }) c.requires r.paths r.cursors
     r.todo shelf.spots shelf.spare c.in_ok-twin.ensures
