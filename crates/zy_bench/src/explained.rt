@@ -66,7 +66,7 @@ fn go_found(machine: &mut Machine, options: SearchOptions, found: &[Choice]) -> 
 fn open_again(alloc: Global, format: Format, scenario: &[u8]) -> Result<Machine, BenchFault> {
     let run = make_again(alloc, format, scenario)?;
     let opened = run.reopen(alloc);
-    drop(run);
+    run.discard();
     Ok(opened?)
 }
 

@@ -131,6 +131,12 @@ impl Furthest {
         }
     }
 
+    /// Drops it.
+    pub fn discard(self) {
+        let Furthest { machine, .. } = self;
+        machine.discard();
+    }
+
     /// How many lines of each actor it takes, of how many.
     pub fn reach(&self) -> Reach {
         Reach {

@@ -150,7 +150,7 @@ fn sum_up<R: Eprint + AllocGlobal>(
     let furthest = Furthest::of(rt.alloc(), quest.options, input, order, report.taken)?;
     tell_furthest(rt, words, report, &furthest);
     furthest.tell(rt, file, input);
-    drop(furthest);
+    furthest.discard();
     Ok(status)
 }
 
