@@ -70,7 +70,7 @@ fn order_from<K: Sink, W: Watch>(
     requires ran { run.machine.now ≡ history_of None run.machine.now.scenario }
     requires input { CanFollow run.machine.now options.gap run.lines.now }
     requires calls { K.failures sink.old < u64.MAX }
-    ensures { WroteOrder (IsAnswerOf options run.machine.now.scenario run.lines.now)
+    ensures { WroteOrder (IsAnswerOf options run.entry.machine.now.scenario run.entry.lines.now)
         (K.written sink.old) (K.written sink.new) (K.failures sink.old) (K.failures sink.new) result }
 {
     let steps = steps(alloc, run.lines)?;

@@ -11,8 +11,8 @@ use Rattle.zy_ordering.proofs.BehindLemmas.{worded}
 use Rattle.zy_ordering.proofs.TakenLemmas.{ran_own, ran_few, ran_all}
 use Rattle.zy_ordering.proofs.behind.write_extended.Goals as goal
 
-pub write_found-requires-clause-taken : goal.write_found-requires-clause-taken
-write_found-requires-clause-taken g c = ran_few _ (ran_own _ c.args.scenario c.in_ok-machine.ensures.run)
+pub write_found-written-requires-clause-taken : goal.write_found-written-requires-clause-taken
+write_found-written-requires-clause-taken g c = ran_few _ (ran_own _ c.args.scenario c.in_ok-machine.ensures.run)
 
 pub returns-in_err-machine : goal.returns-in_err-machine
 returns-in_err-machine g c =

@@ -7,11 +7,11 @@ use Rattle.zy_ordering.specs.Ordering.{CanFollow, IsAnswerOf, WroteOrder}
 use Rattle.zy_ordering.proofs.TakenLemmas.{ran_own}
 use Rattle.zy_ordering.proofs.ordering.write_order.Goals as goal
 
-pub order_from-requires-clause-ran : goal.order_from-requires-clause-ran
-order_from-requires-clause-ran g c = ran_own _ c.args.logged.scenario c.in_ok-machine.ensures.run
+pub order_from-report-requires-clause-ran : goal.order_from-report-requires-clause-ran
+order_from-report-requires-clause-ran g c = ran_own _ c.args.logged.scenario c.in_ok-machine.ensures.run
 
-pub order_from-requires-clause-input : goal.order_from-requires-clause-input
-order_from-requires-clause-input g c =
+pub order_from-report-requires-clause-input : goal.order_from-report-requires-clause-input
+order_from-report-requires-clause-input g c =
     subst (λ (h : History). CanFollow h c.args.options.gap c.args.logged.lines.now) (sym c.in_ok-machine.ensures.run) c.requires.input
 
 pub returns-in_err-machine : goal.returns-in_err-machine
