@@ -36,12 +36,26 @@ fn along_by(
     Ok(positions)
 }
 
+/// Makes the choices of a machine that has made none yet, and gives the positions at which its state shows what is looked for,
+/// with a scratch machine of its own.
+fn along_from(alloc: Global, sought: &Sought, machine: &mut Machine) -> Result<Vec<usize>, Fault>
+    requires follows { Follows machine.old }
+    requires start { machine.old.entries ≡ [] }
+    ensures { IfOk result (λ v. v.items ≡ shown_along machine.old.scenario sought.now) }
+{
+    let mut spare = machine.copy(alloc)?;
+    let positions = along_by(alloc, sought, machine, &mut spare);
+    spare.discard();
+    positions
+}
+
 /// The positions of a scenario's own run at which its state shows what is looked for: how many choices are made there.
 /// A state after 4096 choices is not judged where that takes steps.
 pub fn along(alloc: Global, scenario: Scenario, sought: &Sought) -> Result<Vec<usize>, Fault>
     ensures { IfOk result (λ v. v.items ≡ shown_along scenario sought.now) }
 {
     let mut machine = start(alloc, scenario)?;
-    let mut spare = machine.copy(alloc)?;
-    along_by(alloc, sought, &mut machine, &mut spare)
+    let positions = along_from(alloc, sought, &mut machine);
+    machine.discard();
+    positions
 }

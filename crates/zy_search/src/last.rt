@@ -111,7 +111,9 @@ fn with_wanted(
     ensures due { IfOk result (IsDue plan.now.start plan.now.sought plan.now.most) }
 {
     let mut here = plan.start.copy(plan.alloc)?;
-    with_last(plan, wanted, path, &mut here, spare)
+    let answer = with_last(plan, wanted, path, &mut here, spare);
+    here.discard();
+    answer
 }
 
 /// The answer of a search, made of that of the search through the states: it has one step more, if an outcome is asked
@@ -147,5 +149,7 @@ pub(crate) fn with_step(plan: &Plan, answer: SearchAnswer) -> Result<SearchAnswe
     ensures due { IfOk result (IsDue plan.now.start plan.now.sought plan.now.most) }
 {
     let mut spare = plan.start.copy(plan.alloc)?;
-    with_step_by(plan, answer, &mut spare)
+    let answer = with_step_by(plan, answer, &mut spare);
+    spare.discard();
+    answer
 }

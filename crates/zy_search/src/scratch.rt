@@ -5,6 +5,20 @@ ghost use Rattle.zy_search.specs.Visits.{AreOf};
 use std::alloc::Global;
 use zy_machine::{Fault, Machine};
 
+/// Two copies of a machine.
+fn two_copies(alloc: Global, start: &Machine) -> Result<(Machine, Machine), Fault>
+    ensures { IfOk result (λ both. (both.0 ≡ start.now) × (both.1 ≡ start.now)) }
+{
+    let one = start.copy(alloc)?;
+    match start.copy(alloc) {
+        Ok(other) => Ok((one, other)),
+        Err(fault) => {
+            one.discard();
+            Err(fault)
+        }
+    }
+}
+
 /// Scratch machines of a search.
 #[derive(Drop)]
 pub struct Scratch {
@@ -22,14 +36,32 @@ impl Scratch {
     pub(crate) fn new(alloc: Global, start: &Machine) -> Result<Scratch, Fault>
         ensures { IfOk result (AreOf start.now.scenario) }
     {
-        let here = start.copy(alloc)?;
-        let after = start.copy(alloc)?;
-        let spare = start.copy(alloc)?;
-        Ok(Scratch {
+        let (here, after) = two_copies(alloc, start)?;
+        match start.copy(alloc) {
+            Ok(spare) => Ok(Scratch {
+                here,
+                is_here: false,
+                after,
+                spare,
+            }),
+            Err(fault) => {
+                here.discard();
+                after.discard();
+                Err(fault)
+            }
+        }
+    }
+
+    /// Drops the machines.
+    pub(crate) fn discard(self) {
+        let Scratch {
             here,
-            is_here: false,
             after,
             spare,
-        })
+            ..
+        } = self;
+        here.discard();
+        after.discard();
+        spare.discard();
     }
 }

@@ -153,7 +153,44 @@ fn search_by<R: Threads + Sync, W: Watch>(
     ensures due { IfOk result (IsDue plan.now.start plan.now.sought plan.now.most) }
 {
     let mut scratch = Scratch::new(plan.alloc, &plan.start)?;
-    look(rt, plan, reached, &mut scratch, watch)
+    let found = look(rt, plan, reached, &mut scratch, watch);
+    scratch.discard();
+    found
+}
+
+/// What a search by a plan finds, with its numbers, where the empty path alone is reached.
+fn report_from<R: Threads + Sync, W: Watch>(
+    rt: &R,
+    plan: &Plan,
+    reached: &mut Reached,
+    watch: &mut W,
+) -> Result<SearchReport, Fault>
+    requires whole { IsWhole plan.now }
+    requires first { reached.old.tree ≡ [] ∷ [] }
+    requires informed { IsInformed plan.now reached.old }
+    ensures answer { IfOk result (λ r. IsAnswer plan.now.start plan.now.sought r.answer) }
+    ensures due { IfOk result (λ r. IsDue plan.now.start plan.now.sought plan.now.most r.answer) }
+{
+    let found = search_by(rt, plan, reached, watch)?;
+    let shown = shown_by(&found);
+    let answer = with_step(plan, found)?;
+    Ok(report(&reached.tree, shown, answer))
+}
+
+/// What a search by a plan finds, with its numbers.
+fn report_by<R: Threads + Sync, W: Watch>(
+    rt: &R,
+    plan: &Plan,
+    watch: &mut W,
+) -> Result<SearchReport, Fault>
+    requires { IsWhole plan.now }
+    ensures answer { IfOk result (λ r. IsAnswer plan.now.start plan.now.sought r.answer) }
+    ensures due { IfOk result (λ r. IsDue plan.now.start plan.now.sought plan.now.most r.answer) }
+{
+    let mut reached = Reached::new(plan)?;
+    let report = report_from(rt, plan, &mut reached, watch);
+    drop(reached);
+    report
 }
 
 /// The choices that a search considers from a machine.
@@ -208,9 +245,7 @@ pub fn search<R: Threads + Sync, W: Watch>(
     ensures due { IfOk result (λ r. IsDue start.now sought limits.states r.answer) }
 {
     let plan = plan_from(alloc, start, sought, limits)?;
-    let mut reached = Reached::new(&plan)?;
-    let found = search_by(rt, &plan, &mut reached, watch)?;
-    let shown = shown_by(&found);
-    let answer = with_step(&plan, found)?;
-    Ok(report(&reached.tree, shown, answer))
+    let report = report_by(rt, &plan, watch);
+    plan.start.discard();
+    report
 }

@@ -140,13 +140,20 @@ impl Shelf {
         ensures { OnOk result ((h : History) (ps : List (List Choice)) → IsShelf h ps self.old → at < length ps
             → IsHere h ps at machine → IsShelf h ps self.new) }
     {
-        self.spots.reserve(1)?;
-        let spot = Spot {
-            machine,
-            at: Some(at),
-        };
-        self.spots.push_reserved(spot);
-        Ok(())
+        match self.spots.reserve(1) {
+            Ok(()) => {
+                let spot = Spot {
+                    machine,
+                    at: Some(at),
+                };
+                self.spots.push_reserved(spot);
+                Ok(())
+            }
+            Err(fault) => {
+                machine.discard();
+                Err(fault)
+            }
+        }
     }
 
     /// Gives back the machine of the path at a place, for another one of the scenario, if the spot from which it was

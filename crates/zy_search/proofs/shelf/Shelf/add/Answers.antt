@@ -6,8 +6,8 @@ use Rattle.zy_search.specs.Visits.{IsSpot}
 use Rattle.zy_search.proofs.ShelfLemmas.{one_spot}
 use Rattle.zy_search.proofs.shelf.Shelf.add.Goals as goal
 
-pub returns : goal.returns
-returns c = λ h ps s lt here.
+pub returns-in-Ok : goal.returns-in-Ok
+returns-in-Ok c = λ h ps s lt here.
     let spot : Spot = record { machine = c.args.machine; at = Some c.args.at } in
     let e : c.push_reserved.new.self.items ≡ c.args.self.now.spots.items ++ spot ∷ [] = search rules in
     record {
