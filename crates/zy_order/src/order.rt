@@ -88,8 +88,8 @@ fn spent(plan: &Plan, reached: &Reached) -> Result<OrderReport, Fault>
     Ok(report_of(reached, at, OrderAnswer::Spent(path)))
 }
 
-/// The report, by what came of following the paths.
-fn report_by(plan: &Plan, reached: &Reached, followed: Followed) -> Result<OrderReport, Fault>
+/// The report on what came of following the paths.
+fn report_on(plan: &Plan, reached: &Reached, followed: Followed) -> Result<OrderReport, Fault>
     requires under_way { IsUnderWay plan.now reached.now }
     requires settles { Settles plan.now reached.now followed }
     ensures { IfOk result (λ r. AnswersFor plan.now r.answer) }
@@ -101,7 +101,7 @@ fn report_by(plan: &Plan, reached: &Reached, followed: Followed) -> Result<Order
     }
 }
 
-/// The answer to a plan, by a search that has reached its start alone.
+/// The report of a search by a plan, which goes on from the paths that it has.
 fn report_from<W: Watch>(
     plan: &Plan,
     search: &mut Search,
@@ -111,10 +111,10 @@ fn report_from<W: Watch>(
     ensures { IfOk result (λ r. AnswersFor plan.now r.answer) }
 {
     let followed = search.follow_all(plan, watch)?;
-    report_by(plan, &search.reached, followed)
+    report_on(plan, &search.reached, followed)
 }
 
-/// The answer to a plan, with its numbers.
+/// The report of a search by a plan.
 fn report<W: Watch>(plan: &Plan, watch: &mut W) -> Result<OrderReport, Fault>
     requires { IsPlan plan.now }
     ensures { IfOk result (λ r. AnswersFor plan.now r.answer) }

@@ -5,6 +5,7 @@
 mod calls;
 mod copies;
 mod digest;
+mod digested;
 mod engines;
 mod gates;
 mod growths;

@@ -97,7 +97,7 @@ fn shown_by(answer: &SearchAnswer) -> usize {
 }
 
 /// An answer, with how many states were reached (`shown` of them beside those of the paths), and the length of the last path.
-fn report(tree: &ChoiceTree, shown: usize, answer: SearchAnswer) -> SearchReport
+fn report_of(tree: &ChoiceTree, shown: usize, answer: SearchAnswer) -> SearchReport
     ensures { result.answer ≡ answer }
 {
     let last = tree.len() - 1;
@@ -174,11 +174,11 @@ fn report_from<R: Threads + Sync, W: Watch>(
     let found = search_by(rt, plan, reached, watch)?;
     let shown = shown_by(&found);
     let answer = with_step(plan, found)?;
-    Ok(report(&reached.tree, shown, answer))
+    Ok(report_of(&reached.tree, shown, answer))
 }
 
 /// What a search by a plan finds, with its numbers.
-fn report_by<R: Threads + Sync, W: Watch>(
+fn report<R: Threads + Sync, W: Watch>(
     rt: &R,
     plan: &Plan,
     watch: &mut W,
@@ -245,7 +245,7 @@ pub fn search<R: Threads + Sync, W: Watch>(
     ensures due { IfOk result (λ r. IsDue start.now sought limits.states r.answer) }
 {
     let plan = plan_from(alloc, start, sought, limits)?;
-    let report = report_by(rt, &plan, watch);
+    let report = report(rt, &plan, watch);
     plan.start.discard();
     report
 }
