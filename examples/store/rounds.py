@@ -95,7 +95,7 @@ STORE = (sys.executable, os.path.join(HERE, 'store.py'))
 
 
 def run_store(words, may_fail, limit, store=STORE):
-    """Runs a store. It may print how often its fault made a difference."""
+    """Runs a store, and returns how often its fault made a difference: the last word that it prints, if that is a number, else 0."""
     command = [*store, *words]
     with subprocess.Popen(command, stdout=subprocess.PIPE, stderr=subprocess.PIPE, text=True, start_new_session=True) as store:
         try:
@@ -105,7 +105,8 @@ def run_store(words, may_fail, limit, store=STORE):
             raise Failed('the store did not end within %g s' % limit) from None
     if store.returncode and not may_fail:
         raise Failed(errors.strip())
-    return int(output.split()[-1]) if output.strip() else 0
+    last = output.split()[-1:]
+    return int(last[0]) if last and last[0].isdecimal() else 0
 
 
 def whole(word):
