@@ -78,3 +78,25 @@ DAMAGED = (
     ('{"actor":"A","do":"run 0","came":"did\\nB push"}', FIELD % ('came', SIGNS)),
     ('{"actor":"A","do":"run 0","sent":"pull ; late"}', FIELD % ('sent', SIGNS)),
 )
+
+# Objects, and the lines that they tell: escapes, surrogates, spaces, other fields, and such that nest as deep as may be.
+TOLD = (
+    ('{"actor":"A","do":"run 0","came":"did"}', 'A run 0 -> did'),
+    (' {\t"sent" : "pull","came":"pulls 0" ,"do":"run 0","actor":"B"}\r', 'B run 0 -> pulls 0 ! pull'),
+    ('{"\\u0061ctor":"\\u0043","do":"st\\u0061rt"}', 'C start'),
+    ('{"time":[-1e400,{"actor":null}],"time":2,"actor":"A","do":"take"}', 'A take'),
+    ('{"actor":"A","do":"\\ud83d\\ude00\\/\\b\\t"}', 'A \U0001f600/\b\t'),
+    ('{"actor":"A","do":"","sent":"\U0001f600"}', 'A  ! \U0001f600'),
+    ('{"time":%s%s,"actor":"A","do":"take"}' % ('[' * 127, ']' * 127), 'A take'),
+)
+
+# Lines that are no JSON, and at which byte, if that is clear: what nests too deep is not read.
+NO_JSON = (
+    (b'\xef\xbb\xbf{"actor":"A","do":"take"}', 0),
+    (b'{"actor":"A","do":"run 0"', 25),
+    (b'{"actor":"A","do":take}', 18),
+    (b'{"actor":"A","do":"\\ud83d"}', 18),
+    (b'{"actor":"A","do":"\xff"}', 19),
+    (b'{"actor":"A","do":"take"}{}', 25),
+    (b'{"time":%s%s,"actor":"A","do":"take"}' % (b'[' * 128, b']' * 128), None),
+)

@@ -1,4 +1,4 @@
-"""Builds the program of a copy of the repository without its proofs, for tests/planted: nothing is proved of it, and it is as fast as the proved one.
+"""Builds a program of a copy of the repository without its proofs, for tests/planted: nothing is proved of it, and it is as fast as the proved one.
 
 `rt try` compiles the program with a test of each access, runs it and keeps nothing. The code that it hands to its compiler lies in its temporary
 folder meanwhile, from where it is taken and compiled without these tests."""
@@ -13,6 +13,10 @@ RT = os.path.realpath(shutil.which('rt') or '/nowhere/bin/rt')
 KIT = os.path.dirname(os.path.dirname(RT))
 LIBRARIES = [os.path.join(KIT, 'c', name) for name in ('libos_c.a', 'liblibc_c.a')]
 CLANG = [os.path.join(KIT, 'toolchain', 'bin', 'clang'), '--target=x86_64-unknown-linux-gnu', '-O2', '-x', 'ir', '-c', '-Wno-override-module']
+
+
+# What a program reads that does not know --version.
+EXAMPLE = os.path.join('examples', 'first_run.zephyr')
 
 
 class Unbuilt(Exception):
@@ -30,14 +34,14 @@ def keep_code(folder, kept):
                 pass  # it has a second name, or is removed already
 
 
-def code_of(crate, folder):
-    """The code of a program, in a folder that is to be empty."""
+def code_of(top, crate, folder):
+    """The code of the program of a crate, in a folder that is to be empty. The program is run once: it prints its version, or the listing of an example."""
     tried, kept = os.path.join(folder, 'tried'), os.path.join(folder, 'kept')
     os.mkdir(tried)
     os.mkdir(kept)
-    with open(os.path.join(folder, 'log'), 'w+', encoding='utf-8', errors='replace') as log:
-        process = subprocess.Popen(['rt', 'try', '--', '--version'], cwd=crate, env={**os.environ, 'TMPDIR': tried}, stdin=subprocess.DEVNULL,
-                                   stdout=log, stderr=log)
+    with open(os.path.join(folder, 'log'), 'w+', encoding='utf-8', errors='replace') as log, open(os.path.join(top, EXAMPLE), 'rb') as example:
+        process = subprocess.Popen(['rt', 'try', '--', '--version'], cwd=os.path.join(top, 'crates', crate), env={**os.environ, 'TMPDIR': tried},
+                                   stdin=example, stdout=log, stderr=log)
         while process.poll() is None:
             keep_code(tried, kept)
             time.sleep(0.01)
@@ -49,10 +53,10 @@ def code_of(crate, folder):
     return found[-1]
 
 
-def build(top, program):
-    """Builds the program of a copy, which is at `top`, into a file."""
+def build(top, crate, program):
+    """Builds the program of a crate of a copy, which is at `top`, into a file."""
     with tempfile.TemporaryDirectory() as folder:
         made = os.path.join(folder, 'program.o')
-        code = code_of(os.path.join(top, 'crates', 'zy_bench'), folder)
+        code = code_of(top, crate, folder)
         subprocess.run([*CLANG, '-o', made, code], check=True)
         subprocess.run([os.environ.get('CC', 'cc'), '-o', program, made, *LIBRARIES, '-lpthread', '-lm'], check=True)

@@ -184,10 +184,10 @@ class Build:
         return True
 
     def estimate(self):
-        """How many minutes the proofs take on one processor, and by estimate on those that are here: about a third of it goes one after the other, however
+        """How many minutes the proofs take on one processor, and by estimate on those that are here: about a fifth of it goes one after the other, however
         many there are."""
         total = sum(self.cost(name) for name in self.needs)
-        return math.ceil(total), math.ceil(total / 3 + total * 2 / 3 / self.room)
+        return math.ceil(total), math.ceil(total / 5 + total * 4 / 5 / self.room)
 
     def outlook(self):
         """How many crates are left, and how long they take at the pace so far."""
