@@ -2,7 +2,6 @@
 //! may go, and a step that is refused memory.
 
 use std::alloc::{AllocError, Global};
-use std::process::Abort;
 use std::sync::atomic::{AtomicU64, Ordering};
 use std::sync::{OnceLock, Wait};
 use std::test::Fail;
@@ -10,7 +9,7 @@ use std::thread::{Threads, yield_now};
 use zy_isa::{Actor, Choice, Instr, Node, Program, Reg, Rule, Scenario};
 use zy_table::{Entry, Outcome};
 use zy_threads::run::run_allowed;
-use zy_threads::{Allowance, Board, Gate, Unlimited};
+use zy_threads::{Allowance, Gate, Unlimited};
 
 const TAKE_B: Choice = Choice::Take(Node::B);
 
@@ -358,51 +357,5 @@ fn each_call_has_the_entry_before(rt: HostRuntime) -> Result<(), Fail> {
     assert!(rt; gate.agrees(steps.as_slice(), Actor::C));
     assert!(rt; gate.agrees(steps.as_slice(), Actor::A));
     assert!(rt; gate.agrees(steps.as_slice(), Actor::B));
-    Ok(())
-}
-
-/// Spends a thousand turns before each step of B.
-#[derive(Drop)]
-struct SlowB {
-    turns: AtomicU64,
-}
-
-impl Gate for SlowB {
-    fn before(&self, actor: Actor, _k: usize, _last: Option<&Entry>) {
-        if actor != Actor::B {
-            return;
-        }
-        for _ in 0..1000 {
-            self.turns.fetch_add(1, Ordering::SeqCst);
-        }
-    }
-}
-
-#[test]
-fn b_may_be_slow(rt: HostRuntime) -> Result<(), Fail> {
-    let gate = SlowB {
-        turns: AtomicU64::new(0),
-    };
-    let steps = steps(&rt, rt.alloc(), &gate, &Unlimited)?;
-    assert_eq!(rt; gate.turns.load(Ordering::SeqCst), 5000);
-    assert!(rt; are_merged(steps.as_slice()));
-    Ok(())
-}
-
-/// A takes its only choice, and has none left.
-fn check_board(rt: &impl Abort, board: &mut Board) {
-    let turn = board.step_next(Actor::A);
-    assert!(rt; turn.map(|entry| entry.map(|entry| entry.outcome)) == Ok(Some(Outcome::NoMessage)));
-    assert!(rt; board.step_next(Actor::A) == Ok(None));
-    assert_eq!(rt; board.cursor(Actor::A), 1);
-    assert_eq!(rt; board.cursor(Actor::B), 0);
-    assert_eq!(rt; board.machine().len(), 1);
-}
-
-#[test]
-fn a_board_by_hand(rt: HostRuntime) -> Result<(), Fail> {
-    let mut board = Board::new(rt.alloc(), scenario(rt.alloc())?)?;
-    check_board(&rt, &mut board);
-    assert_eq!(rt; board.into_machine().len(), 1);
     Ok(())
 }
