@@ -1,5 +1,6 @@
-"""rt, with the sum of a crate's files taken once for each question. Some kits' rt takes it anew for each way down the crates, of which there are
-thousands. What rt asks again after a proof, to see whether a file was changed meanwhile, is a question of its own.
+"""rt, with two things done otherwise. It takes the sum of a crate's files once for each question: some kits' rt takes it anew for each way down the crates, of
+which there are thousands. What rt asks again after a proof, to see whether a file was changed meanwhile, is a question of its own. And `rt lib` leaves a
+library's statements in place of its whole proof, as the gate does, so that the crates above it load less: they are proved in half of the time.
 
     rt_once.py WORD ..
 
@@ -31,6 +32,23 @@ def once(method):
     return value
 
 
+def with_statements(build):
+    """A build of a library that leaves its statements, and the stamp by which other commands of rt know it."""
+
+    def build_rlib(crate, flags, anew):
+        stamp = crate.stamp()
+        if anew or crate.is_built():
+            return build(crate, flags, anew)
+        type(crate).cuts_libraries = True
+        status = build(crate, flags, anew=True)
+        if status == 0 and crate.stamp() == stamp:
+            with open(os.path.join(os.path.dirname(crate.rlib), 'stamp'), 'w', encoding='utf-8') as file:
+                file.write(stamp)
+        return status
+
+    return build_rlib
+
+
 def main(words):
     path = os.path.realpath(shutil.which('rt'))
     try:
@@ -39,6 +57,8 @@ def main(words):
         loader.exec_module(rt)
         crate = rt.rtlib.Crate
         crate.stamp, crate.below = once(crate.stamp), once(crate.below)
+        if '--statements' in rt.rtlib.help_of('build'):
+            crate.build_rlib = with_statements(crate.build_rlib)
     except (AttributeError, OSError, SyntaxError):
         os.execv(path, ['rt', *words])
     return rt.main(words)
