@@ -330,6 +330,11 @@ SCRIPT_FAULTS = [
     script('build: all of it goes side by side', 'tools/build.py', 'total / 5 + total * 4 / 5 / self.room', 'total / self.room', 'build'),
     script('build: nothing is said of the other commands', 'tools/build.py', "if PROGRAM != 'zy_bench':", 'if False:', 'build'),
     script('build: all crates count as those of the other commands', 'tools/build.py', "needs('zy_bench').keys() - build.done", "needs('zy_bench').keys()", 'build'),
+    script('build: a library is built whole', 'tools/rt_once.py', "if '--statements' in rt.rtlib.help_of('build'):", 'if False:', 'build'),
+    script('build: a library has statements where there are none', 'tools/rt_once.py', "if '--statements' in rt.rtlib.help_of('build'):", 'if True:', 'build'),
+    script('build: a library that is built is built again', 'tools/rt_once.py', 'if anew or crate.is_built():', 'if anew:', 'build'),
+    script('build: a library that is not proved has a stamp', 'tools/rt_once.py', 'if status == 0 and crate', 'if crate', 'build'),
+    script('build: a library has no stamp', 'tools/rt_once.py', 'if status == 0 and crate.stamp() == stamp:', 'if False:', 'build'),
     script('build: the toolchain is not noted', 'zy_bench', '  rt version > "$program.toolchain"\n', '', 'build'),
     # releases
     script('release: with the times of the files', 'tools/packing/archive.py', 'entry.mode, entry.size = files[name][0], len(files[name][1])',
