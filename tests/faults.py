@@ -335,6 +335,8 @@ SCRIPT_FAULTS = [
     script('build: a library that is built is built again', 'tools/rt_once.py', 'if anew or crate.is_built():', 'if anew:', 'build'),
     script('build: a library that is not proved has a stamp', 'tools/rt_once.py', 'if status == 0 and crate', 'if crate', 'build'),
     script('build: a library has no stamp', 'tools/rt_once.py', 'if status == 0 and crate.stamp() == stamp:', 'if False:', 'build'),
+    script('build: a library keeps what an older one had', 'tools/rt_once.py', '        shutil.rmtree(folder, ignore_errors=True)\n        os.makedirs(folder)\n', '', 'build'),
+    script('build: a library is built over what an older check kept', 'tools/rt_once.py', 'keeps=False', 'keeps=True', 'build'),
     script('build: the toolchain is not noted', 'zy_bench', '  rt version > "$program.toolchain"\n', '', 'build'),
     # releases
     script('release: with the times of the files', 'tools/packing/archive.py', 'entry.mode, entry.size = files[name][0], len(files[name][1])',

@@ -32,17 +32,18 @@ def once(method):
     return value
 
 
-def with_statements(build):
+def with_statements(build, rattle):
     """A build of a library that leaves its statements, and the stamp by which other commands of rt know it."""
 
     def build_rlib(crate, flags, anew):
-        stamp = crate.stamp()
+        stamp, folder = crate.stamp(), os.path.dirname(crate.rlib)
         if anew or crate.is_built():
             return build(crate, flags, anew)
-        type(crate).cuts_libraries = True
-        status = build(crate, flags, anew=True)
+        shutil.rmtree(folder, ignore_errors=True)
+        os.makedirs(folder)
+        status = crate.call(rattle, 'build', *crate.words(flags, keeps=False), '--statements', '-o', crate.rlib)
         if status == 0 and crate.stamp() == stamp:
-            with open(os.path.join(os.path.dirname(crate.rlib), 'stamp'), 'w', encoding='utf-8') as file:
+            with open(os.path.join(folder, 'stamp'), 'w', encoding='utf-8') as file:
                 file.write(stamp)
         return status
 
@@ -58,7 +59,7 @@ def main(words):
         crate = rt.rtlib.Crate
         crate.stamp, crate.below = once(crate.stamp), once(crate.below)
         if '--statements' in rt.rtlib.help_of('build'):
-            crate.build_rlib = with_statements(crate.build_rlib)
+            crate.build_rlib = with_statements(crate.build_rlib, rt.rtlib.RATTLE)
     except (AttributeError, OSError, SyntaxError):
         os.execv(path, ['rt', *words])
     return rt.main(words)
