@@ -1,6 +1,6 @@
 """rt, with two things done otherwise. It takes the sum of a crate's files once for each question: some kits' rt takes it anew for each way down the crates, of
 which there are thousands. What rt asks again after a proof, to see whether a file was changed meanwhile, is a question of its own. And `rt lib` leaves a
-library's statements in place of its whole proof, as the gate does, so that the crates above it load less: they are proved in half of the time.
+library's statements in place of its whole proof, as the gate does, so that the crates above it load less.
 
     rt_once.py WORD ..
 
