@@ -216,7 +216,7 @@ def main():
     build = Build()
     say('%s is not built of these sources: its %d crates are proved now, at most %d side by side; the log is %s' % (
         PROGRAM, len(build.needs), build.room, LOG))
-    say('by docs/gate.md that takes %d minutes of one processor, and about %d here; a look without proofs takes some minutes: '
+    say('by docs/gate.md that takes %d minutes of one processor, and about %d here; a look without proofs takes about a minute: '
         './zy_bench --unproved run < FILE, or another command of zy_bench' % build.estimate())
     try:
         while build.left or build.under_way:
