@@ -77,21 +77,23 @@ class Tree:
         return found
 
     def settle(self):
-        """Notes that the program is that of the sources that are there."""
+        """Notes that the program that is there is that of the sources that are there."""
         sums = self.sources()
         lines = ''.join('%s  %s\n' % (sums[name], name) for name in sorted(sums))
+        given = lines.encode(), content(self.path('crates/zy_bench/out/zy_bench'))
         write(self.path('crates/zy_bench/out/zy_bench.times'), '')
-        write(self.path('crates/zy_bench/out/zy_bench.sum'), '%s  -\n' % digest(lines.encode()))
+        write(self.path('crates/zy_bench/out/zy_bench.sum'), ''.join('%s  -\n' % digest(each) for each in given))
 
     def environment(self, path=None):
-        """Nothing but what a script needs; `path` is there in place of rt and the commands."""
+        """Nothing but what a script needs, and that Python looks for no modules beside a script by itself; `path` is there in place of rt and the commands."""
         home = os.path.join(os.path.dirname(self.top), 'home')
-        return {'PATH': path or self.path('bin') + os.pathsep + self.commands, 'HOME': home, 'LC_ALL': 'C.UTF-8', 'TMPDIR': os.path.dirname(self.top)}
+        return {'PATH': path or self.path('bin') + os.pathsep + self.commands, 'HOME': home, 'LC_ALL': 'C.UTF-8', 'TMPDIR': os.path.dirname(self.top),
+                'PYTHONSAFEPATH': '1'}
 
-    def run(self, *words, path=None, given='', where=None):
+    def run(self, *words, path=None, given='', where=None, umask=-1):
         """The status of a script of this tree, what it writes and what it says."""
-        done = subprocess.run([self.path(words[0]), *words[1:]], env=self.environment(path), input=given, cwd=where or self.top, capture_output=True,
-                              text=True, timeout=120, check=False)
+        done = subprocess.run([self.path(words[0]), *words[1:]], env=self.environment(path), input=given, cwd=where or self.top, umask=umask,
+                              capture_output=True, text=True, timeout=120, check=False)
         return done.returncode, done.stdout, done.stderr
 
     def proved(self):

@@ -123,7 +123,7 @@ class Library:
     """All definitions, and what each of them uses."""
 
     def __init__(self):
-        paths = sorted(glob.glob(os.path.join(CRATES, '*', 'specs', '**', '*.antt'), recursive=True))
+        paths = sorted(glob.glob(os.path.join(glob.escape(CRATES), '*', 'specs', '**', '*.antt'), recursive=True))
         self.modules = {module.name: module for module in map(Module, paths)}
 
     def find(self, path):

@@ -22,6 +22,9 @@ LIMITS = {}
 # The bytes that a pipe has room for: most answers go in whole, so that nobody waits for the other.
 PIPE = 1 << 20
 
+# Linux's number for that request, which Python names from 3.10 on.
+SET_PIPE_SIZE = 1031
+
 # The most seconds that one call may take, whatever it does; None for any.
 PATIENCE = None
 
@@ -73,7 +76,7 @@ def widen(*pipes):
     """Gives pipes more room, where the system lets a user have it."""
     for pipe in pipes:
         with suppress(OSError):
-            fcntl.fcntl(pipe, fcntl.F_SETPIPE_SZ, PIPE)
+            fcntl.fcntl(pipe, SET_PIPE_SIZE, PIPE)
 
 
 def start(words, limits=None, **pipes):

@@ -30,6 +30,9 @@ RT = (sys.executable, os.path.join(TOP, 'tools', 'rt_once.py'))
 
 FAILED = 70
 
+# Who asked for the program: once that process is gone, nobody waits for it.
+ASKED_BY = os.getppid()
+
 
 def listed():
     """The lines of crates.txt, by the crates' names."""
@@ -199,9 +202,12 @@ class Build:
         return '; %d left, about %d min' % (left, -(-seconds // 60))
 
     def stop(self):
+        """Ends the proofs that are under way, all of them before one is tidied up."""
         for proof in self.under_way:
             proof.process.terminate()
+        for proof in self.under_way:
             proof.process.wait()
+        for proof in self.under_way:
             proof.finish()
 
 
@@ -209,8 +215,15 @@ def say(line):
     print(line, file=sys.stderr, flush=True)
 
 
+def obey():
+    """Ends tidily at a signal that is not ignored, as that of a closed terminal is under nohup."""
+    for number in (signal.SIGINT, signal.SIGTERM, signal.SIGHUP):
+        if signal.getsignal(number) != signal.SIG_IGN:
+            signal.signal(number, lambda *_: sys.exit(FAILED))
+
+
 def main():
-    signal.signal(signal.SIGTERM, lambda *_: sys.exit(FAILED))
+    obey()
     open(LOG, 'wb').close()
     shutil.rmtree(ROOMS, ignore_errors=True)
     build = Build()
@@ -221,7 +234,7 @@ def main():
     try:
         while build.left or build.under_way:
             build.begin()
-            if not build.step():
+            if not build.step() or os.getppid() != ASKED_BY:
                 return FAILED
             time.sleep(0.5)
     finally:

@@ -41,14 +41,15 @@ class Timeline:
 
     def __init__(self, changes):
         self.changes = changes
+        self.positions = [position for position, _ in changes]
 
     def at(self, position):
         """What it is at a position."""
-        return self.changes[bisect(self.changes, position, key=lambda change: change[0]) - 1][1]
+        return self.changes[bisect(self.positions, position) - 1][1]
 
     def behind(self, position):
         """The changes behind a position."""
-        return islice(self.changes, bisect(self.changes, position, key=lambda change: change[0]), None)
+        return islice(self.changes, bisect(self.positions, position), None)
 
     def map(self, value_of):
         """The timeline of a part of it."""

@@ -7,6 +7,8 @@ A fault is one line on standard error, `install: FILE: FAULT: words`."""
 import os
 import sys
 
+sys.path.insert(0, os.path.dirname(os.path.realpath(__file__)))
+
 from packing.archive import FOLDER, Fault
 from packing.record import files_in
 

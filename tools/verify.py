@@ -5,7 +5,10 @@
 A line each says of the program, its sources, the files that go along and the toolchain whether they are the same; below it is what differs. The status is
 0 where program, sources and files are the same, else 1. A fault is one line on standard error, `FILE: FAULT: words`."""
 
+import os
 import sys
+
+sys.path.insert(0, os.path.dirname(os.path.realpath(__file__)))
 
 from packing.archive import Fault
 from packing.making import Unbuilt, made

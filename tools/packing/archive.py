@@ -117,4 +117,6 @@ def name_of(entry):
         raise Fault('Unsafe', '%r is not in the folder %s' % (entry.name, FOLDER))
     if entry.mode not in (PLAIN, PROGRAM):
         raise Fault('Unsafe', '%r has the mode %o' % (entry.name, entry.mode))
+    if not entry.name.isprintable():
+        raise Fault('Unsafe', '%r cannot be printed' % entry.name)
     return '/'.join(parts)

@@ -2,7 +2,7 @@
 
 import os
 import subprocess
-from glob import glob
+from glob import escape, glob
 
 from packing.archive import PLAIN, PROGRAM, Fault
 from packing.record import Release
@@ -67,7 +67,7 @@ def along():
 
 def found(pattern):
     """The paths of the files with such a name, below the top."""
-    return [path for path in glob(os.path.join(TOP, pattern), recursive=True) if os.path.relpath(path, TOP) not in LEFT_OUT]
+    return [path for path in glob(os.path.join(escape(TOP), pattern), recursive=True) if os.path.relpath(path, TOP) not in LEFT_OUT]
 
 
 def whole(release):

@@ -63,11 +63,17 @@ def toolchain_in(files):
     return found.group(1).decode()
 
 
+def summed(line):
+    """A line with a checksum and a name that can be printed, as a match; None where it is none."""
+    found = re.fullmatch('([0-9a-f]{64})  (.+)', line)
+    return found if found and found.group(2).isprintable() else None
+
+
 def sums_in(files, name):
     """The checksums by name in a file of a release."""
     if name not in files:
         raise Fault('Damaged', '%r is missing' % name)
-    found = [re.fullmatch('([0-9a-f]{64})  (.+)', line) for line in files[name][1].decode(errors='replace').removesuffix('\n').split('\n')]
+    found = [summed(line) for line in files[name][1].decode(errors='replace').removesuffix('\n').split('\n')]
     if not all(found):
         raise Fault('Damaged', 'line %d of %s is no checksum with a name' % (found.index(None) + 1, name))
     sums = {match.group(2): match.group(1) for match in found}

@@ -8,6 +8,7 @@ import bench
 import outcomes
 import runs
 import waiting
+from files import put
 from picture.looks import STUCK
 from picture.serial import differences, verdict_line
 from picture.text import summary
@@ -229,8 +230,7 @@ class Session:
     def save(self, path):
         """Writes the scenario with the choices up to the position."""
         try:
-            with open(path, 'w', encoding='utf-8', errors='surrogateescape') as file:
-                file.write(self.text(self.written()))
+            put(path, self.text(self.written()).encode('utf-8', 'surrogateescape'))
         except OSError as error:
             raise Fault(str(error)) from None
         self.saved = self.choices[:self.position]
