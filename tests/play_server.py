@@ -279,7 +279,8 @@ def opened():
     with tempfile.TemporaryDirectory() as work:
         script, path = os.path.join(work, 'browser'), os.path.join(work, 'address')
         with open(script, 'w', encoding='utf-8') as file:
-            file.write('#!/bin/sh\nprintf %%s "$1" > %s.part; mv %s.part %s\n' % (path, path, path))
+            # Some browsers stay in the foreground.
+            file.write('#!/bin/sh\nprintf %%s "$1" > %s.part; mv %s.part %s; exec sleep 30\n' % (path, path, path))
         os.chmod(script, 0o700)
         with Play(opens=script) as play:
             end = time.monotonic() + 20

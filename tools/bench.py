@@ -28,6 +28,9 @@ SET_PIPE_SIZE = 1031
 # The most seconds that one call may take, whatever it does; None for any.
 PATIENCE = None
 
+# The calls that have begun, but for those that are known to have ended.
+BEGUN = set()
+
 
 class Refused(Exception):
     """The program ended with another status than those that were expected; its words are on standard error, or here."""
@@ -35,6 +38,16 @@ class Refused(Exception):
     def __init__(self, status, words):
         super().__init__(words)
         self.status, self.words = status, words
+
+    def line(self):
+        """What is to be said: its words, or that it was killed, of which it could say nothing itself."""
+        return self.words or ('zy_bench was ended by signal %d' % -self.status if self.status < 0 else '')
+
+    def reported(self, name):
+        """Says so for a script, if there is something to be said, and returns the status with which that ends."""
+        if self.line():
+            print('%s: %s' % (name, self.line()), file=sys.stderr)
+        return self.status if self.status >= 0 else 128 - self.status
 
 
 def settle():
@@ -85,11 +98,27 @@ def start(words, limits=None, **pipes):
         process = subprocess.Popen([PROGRAM] + words, **pipes)
     except OSError as error:
         sys.exit('%s: %s' % (os.path.basename(sys.argv[0]), error))
+    for ended in [call for call in list(BEGUN) if call.returncode is not None]:
+        BEGUN.discard(ended)
+    BEGUN.add(process)
     for kind, most in (limits or LIMITS).items():
         allowed = resource.prlimit(process.pid, kind)[1]
         most = most if allowed == resource.RLIM_INFINITY else min(most, allowed)
         resource.prlimit(process.pid, kind, (most, most))
     return process
+
+
+def end_with_calls():
+    """From here on a signal that ends a script ends the calls that are under way, too, if it is not ignored."""
+    for number in (signal.SIGTERM, signal.SIGHUP):
+        if signal.getsignal(number) != signal.SIG_IGN:
+            signal.signal(number, kill_calls)
+
+
+def kill_calls(number, _):
+    for process in list(BEGUN):
+        process.kill()
+    os._exit(128 + number)
 
 
 def words_of(line):

@@ -1,7 +1,8 @@
-"""Files that are written whole or not at all."""
+"""What scripts write: files, which are there whole or not at all, and their own output."""
 
 import os
 import shutil
+import sys
 
 
 def put(path, given):
@@ -22,3 +23,25 @@ def put(path, given):
         if os.path.exists(part):
             os.remove(part)
         raise OSError(error.errno, error.strerror, path) from None
+
+
+def drop_output():
+    """What is still to be written to standard output goes nowhere, so that nothing more is said of it at the end."""
+    os.dup2(os.open(os.devnull, os.O_WRONLY), sys.stdout.fileno())
+
+
+def status_of(main, name):
+    """The status with which a script ends: that of its main, or 5 where its output cannot be written, which it says unless nobody reads it any more."""
+    try:
+        try:
+            return main()
+        finally:
+            sys.stdout.flush()
+    except KeyboardInterrupt:
+        return 130
+    except BrokenPipeError:
+        drop_output()
+    except OSError as error:
+        drop_output()
+        print('%s: standard output: %s' % (name, error.strerror), file=sys.stderr)
+    return 5

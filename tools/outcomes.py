@@ -42,13 +42,18 @@ def matched(pattern, outcome):
     return {w: h for w, h in zip(want, have) if is_letter(w)}
 
 
+def put_in(pattern, words, text):
+    """A text with some words, which may be any, in the place of a pattern."""
+    return re.sub(pattern, lambda _: words, text)
+
+
 def filled(meaning, letters):
     """A meaning with its letters as they are in an outcome, as a sentence."""
     for letter, value in letters.items():
         noun = NOUNS.get(letter)
         if noun:
-            meaning = re.sub(r'\b%s %s\b' % (noun, letter), '%s %s' % (noun, value), meaning)
-        meaning = re.sub(r'\b%s\b' % letter, '%s %s' % (noun, value) if noun else value, meaning)
+            meaning = put_in(r'\b%s %s\b' % (noun, letter), '%s %s' % (noun, value), meaning)
+        meaning = put_in(r'\b%s\b' % letter, '%s %s' % (noun, value) if noun else value, meaning)
     return meaning[0].upper() + meaning[1:] + '.'
 
 

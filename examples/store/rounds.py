@@ -21,6 +21,9 @@ TOP = os.path.dirname(os.path.dirname(HERE))
 # ZY_BENCH names another program than the one of this checkout.
 PROGRAM = os.environ.get('ZY_BENCH', os.path.join(TOP, 'zy_bench'))
 
+# Bytes that are no UTF-8 go through unchanged, so that zy_bench says where they are.
+TEXT = {'encoding': 'utf-8', 'errors': 'surrogateescape'}
+
 # How long the store may take, in seconds: where one of its processes has died, the others wait for it.
 LIMIT = 120
 
@@ -66,47 +69,83 @@ class Failed(Exception):
     """The store did not run, for this reason."""
 
 
+# What a store writes into its folder: a log of each actor, and perhaps its end.
+LOGS = ('client', 'a', 'b')
+END = 'end'
+
+
+def log_path(folder, name):
+    return os.path.join(folder, name + '.log')
+
+
 def log_of(folder, name, is_json):
     """The text of a log; none where a crash came before it was made. Where a crash cut off the end of its last line, that is ended behind its choice."""
-    path = os.path.join(folder, name + '.log')
+    path = log_path(folder, name)
     text = content(path) if os.path.exists(path) else ''
     lines, end, last = text.rpartition('\n')
     form = form_of(is_json)
-    return lines + end + (last.split(form.BEHIND)[0] + form.NO_TAIL if last else '')
+    return lines + end + (without_tail(last, form.BEHIND) + form.NO_TAIL if last else '')
+
+
+def without_tail(line, behind):
+    """The choice of a line that a crash cut off behind the choice, perhaps in the middle of what is between that and what came of it."""
+    choice = line.split(behind)[0]
+    size = next(size for size in range(len(behind) - 1, -1, -1) if choice.endswith(behind[:size]))
+    return choice[:len(choice) - size]
 
 
 def content(*path):
     """The text of a file."""
-    with open(os.path.join(*path), encoding='utf-8') as file:
+    with open(os.path.join(*path), **TEXT) as file:
         return file.read()
 
 
 def put(text, *path):
-    with open(os.path.join(*path), 'w', encoding='utf-8') as file:
+    with open(os.path.join(*path), 'w', **TEXT) as file:
         file.write(text)
 
 
-def ask(words, given, text=True):
-    return subprocess.run([PROGRAM, *words], input=given if text else given.encode(), capture_output=True, text=text, check=False)
+def ask(words, given):
+    return subprocess.run([PROGRAM, *words], input=given, capture_output=True, check=False, **TEXT)
 
 
 # The store of this folder. Another one takes the same words, and writes the same files.
 STORE = (sys.executable, os.path.join(HERE, 'store.py'))
 
 
-def run_store(words, may_fail, limit, store=STORE):
-    """Runs a store, and returns how often its fault made a difference: the last word that it prints, if that is a number, else 0."""
+def run_store(words, is_well, limit, store=STORE):
+    """Runs a store, and returns how often its fault made a difference: the last word that it prints, if that is a number, else 0. Whether it has done what it
+    was run for, its status says."""
     command = [*store, *words]
-    with subprocess.Popen(command, stdout=subprocess.PIPE, stderr=subprocess.PIPE, text=True, start_new_session=True) as store:
+    with subprocess.Popen(command, stdout=subprocess.PIPE, stderr=subprocess.PIPE, start_new_session=True, encoding='utf-8', errors='replace') as store:
         try:
             output, errors = store.communicate(timeout=limit)
-        except subprocess.TimeoutExpired:
+        except BaseException as reason:
             os.killpg(store.pid, signal.SIGKILL)
-            raise Failed('the store did not end within %g s' % limit) from None
-    if store.returncode and not may_fail:
-        raise Failed(errors.strip())
+            if isinstance(reason, subprocess.TimeoutExpired):
+                raise Failed('the store did not end within %g s' % limit) from None
+            raise
+    if not is_well(store.returncode):
+        raise Failed(errors.strip() or 'the store ended with status %d' % store.returncode)
     last = output.split()[-1:]
     return int(last[0]) if last and last[0].isdecimal() else 0
+
+
+def is_zero(status):
+    """Whether a store that does not crash has run."""
+    return status == 0
+
+
+def has_crashed(folder):
+    """Whether a store that was to crash has run, by its status: it has if it ended well, was killed, or left a log."""
+    return lambda status: status <= 0 or any(os.path.exists(log_path(folder, name)) for name in LOGS)
+
+
+def clear(folder):
+    """Removes what an earlier run of a store has left in a folder."""
+    for path in (*(log_path(folder, name) for name in LOGS), os.path.join(folder, END)):
+        if os.path.exists(path):
+            os.remove(path)
 
 
 def whole(word):
@@ -133,24 +172,25 @@ def question(options):
 
 
 def tested(text):
-    """A scenario's text, if `zy_bench` takes it."""
-    answer = ask(['asm'], text, text=False)
+    """A scenario's text, if `zy_bench` takes it, with a line feed at its end."""
+    answer = ask(['asm'], text)
     if answer.returncode:
-        raise Failed(answer.stderr.decode(errors='replace').strip())
-    return text
+        raise Failed(answer.stderr.strip())
+    return text if text.endswith('\n') else text + '\n'
 
 
 def play(text, folder, seed, fault=None, crash=None, store=STORE, is_json=False, words=('order',)):
     """A round: a store runs a scenario, with a fault or until it crashes, and the logs that it writes into a folder are judged."""
+    clear(folder)
     put(text, folder, 'scenario')
     given = ['--seed', str(seed)] + (['--fault', fault] if fault else []) + (['--crash', '%.4f' % crash] if crash else []) + ['--json'] * is_json
     begun = time.monotonic()
-    slips = run_store([os.path.join(folder, 'scenario'), folder, *given], bool(crash), LIMIT, store)
+    slips = run_store([os.path.join(folder, 'scenario'), folder, *given], has_crashed(folder) if crash else is_zero, LIMIT, store)
     ran = time.monotonic() - begun
-    logs = ''.join(log_of(folder, name, is_json) for name in ('client', 'a', 'b'))
+    logs = ''.join(log_of(folder, name, is_json) for name in LOGS)
     put(text + logs, folder, 'input')
-    has_end = not crash and os.path.exists(os.path.join(folder, 'end'))
-    verdict, lines = judged([*words, *['--json'] * is_json], text + logs, content(folder, 'end') if has_end else None)
+    has_end = not crash and os.path.exists(os.path.join(folder, END))
+    verdict, lines = judged([*words, *['--json'] * is_json], text + logs, content(folder, END) if has_end else None)
     return Round(verdict, lines, logs, slips, ran, time.monotonic() - begun - ran)
 
 

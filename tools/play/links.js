@@ -45,7 +45,7 @@ async function arrive(hash) {
   const run = await linked(hash);
   if (!run) return showDamaged();
   if (D && run.text === doc.text) return show(run.at);
-  if (D) putAside();
+  putAside();
   const kept = D ? null : keptBranches(run.text);
   if (kept) own = new Map([...own, ...kept.own]);
   const shown = take(run.text, nameFor(run.text), run.at);

@@ -173,7 +173,7 @@ onShow = () => {
 const snapshot = () => ({doc: {...doc}, branches, current, name, own});
 function remember() {
   past.push(snapshot());
-  future.length = 0;
+  [future.length, typed] = [0, 0];
   drawUndo();
 }
 // Undo and redo can be clicked where there is something to undo or redo.
@@ -216,6 +216,7 @@ function undo(from, to) {
   to.push(snapshot());
   note('');
   const before = from.pop();
+  typed = 0;
   ({branches, current, name, own} = before);
   showName();
   drawUndo();

@@ -21,7 +21,7 @@ function take(text, title, at = Infinity) {
 }
 // Keeps what is shown for undo, and says so where it is not an example as it comes.
 function putAside() {
-  if (!D) return;
+  if (!name) return;
   const many = branches.length > 1 ? ` with its ${branches.length} branches` : '', isChanged = many || doc.text !== given.examples[name];
   remember();
   if (own.has(name)) own = new Map([...own, [name, doc.text]]);
@@ -74,4 +74,5 @@ function beginOwn(text, title) {
 $('file').onchange = async event => {
   const file = event.target.files[0];
   if (file) beginOwn((await file.text()).replace(/\r\n/g, '\n'), file.name.replace(/\.\w+$/, ''));
+  event.target.value = '';              // so that the same file can be opened again
 };

@@ -14,7 +14,7 @@ def met(goal, text):
     try:
         return [int(line) for line in bench.ask(['find', '--for', goal], text.encode(**bench.BYTES), good=(0, NONE), quiet=True)]
     except bench.Refused as refused:
-        raise NoGoal(refused.words.removeprefix('zy_bench: --for: ')) from None
+        raise NoGoal(refused.line().removeprefix('zy_bench: --for: ')) from None
 
 
 def turns(goal, text):

@@ -185,7 +185,7 @@ class Session:
         try:
             return runs.read(self.text(choices), quiet=True)
         except bench.Refused as refused:
-            raise Fault(refused.words.split(': ', 2)[-1]) from None
+            raise Fault(refused.line().split(': ', 2)[-1]) from None
 
     def one_more(self, done, choice):
         """The run with one choice more; a fault where the words are not one choice."""

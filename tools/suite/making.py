@@ -52,7 +52,7 @@ class Suite:
             if row.status == FOUND:
                 put(folder, name_of(row) + '.zephyr', row.answer.text)
                 put(folder, name_of(row) + '.listing', ''.join(line + '\n' for line in bench.ask(['run'], row.answer.text, quiet=True)).encode(**bench.BYTES))
-        put(folder, 'index', (HEAD.format(KILLS) + ''.join(line_of(row) + '\n' for row in self.rows)).encode())
+        put(folder, 'index', (HEAD.format(KILLS) + ''.join(line_of(row) + '\n' for row in self.rows)).encode(**bench.BYTES))
 
     def summary(self):
         """How many scenarios there are, and how often an outcome cannot come."""
@@ -74,6 +74,10 @@ def line_of(row):
 
 
 def put(folder, name, content):
-    """Writes a file."""
-    with open(os.path.join(folder, name), 'xb') as file:
-        file.write(content)
+    """Writes a file; a fault names it."""
+    path = os.path.join(folder, name)
+    try:
+        with open(path, 'xb') as file:
+            file.write(content)
+    except OSError as error:
+        raise OSError(error.errno, error.strerror, path) from None

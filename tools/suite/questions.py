@@ -38,7 +38,8 @@ class Programs:
         with bench.start(words, stdin=subprocess.PIPE, stdout=subprocess.PIPE, stderr=subprocess.PIPE) as process:
             written, said = process.communicate(self.text)
         if process.returncode not in (FOUND, NONE, SPENT):
-            raise bench.Refused(process.returncode, '%s: %s' % (self.name, said.decode(**bench.BYTES).strip()))
+            words = said.decode(**bench.BYTES).strip()
+            raise bench.Refused(process.returncode, words and '%s: %s' % (self.name, words))
         return Answer(process.returncode, written, len(re.findall(rb'^[CAB] ', written, re.MULTILINE)))
 
     def reaches(self, phase, states):
