@@ -6,6 +6,7 @@ import resource
 import signal
 import subprocess
 import sys
+import threading
 from contextlib import suppress
 
 TOP = os.path.dirname(os.path.dirname(os.path.realpath(__file__)))
@@ -28,8 +29,8 @@ SET_PIPE_SIZE = 1031
 # The most seconds that one call may take, whatever it does; None for any.
 PATIENCE = None
 
-# The calls that have begun, but for those that are known to have ended.
-BEGUN = set()
+# The calls that have begun, but for those that are known to have ended; who begins one, or ends all, has the lock.
+BEGUN, BEGINNING = set(), threading.RLock()
 
 
 class Refused(Exception):
@@ -94,13 +95,13 @@ def widen(*pipes):
 
 def start(words, limits=None, **pipes):
     """The program as it begins, within some limits, or else LIMITS."""
-    try:
-        process = subprocess.Popen([PROGRAM] + words, **pipes)
-    except OSError as error:
-        sys.exit('%s: %s' % (os.path.basename(sys.argv[0]), error))
-    for ended in [call for call in list(BEGUN) if call.returncode is not None]:
-        BEGUN.discard(ended)
-    BEGUN.add(process)
+    with BEGINNING:
+        try:
+            process = subprocess.Popen([PROGRAM] + words, **pipes)
+        except OSError as error:
+            sys.exit('%s: %s' % (os.path.basename(sys.argv[0]), error))
+        BEGUN.difference_update([call for call in BEGUN if call.returncode is not None])
+        BEGUN.add(process)
     for kind, most in (limits or LIMITS).items():
         allowed = resource.prlimit(process.pid, kind)[1]
         most = most if allowed == resource.RLIM_INFINITY else min(most, allowed)
@@ -116,9 +117,10 @@ def end_with_calls():
 
 
 def kill_calls(number, _):
-    for process in list(BEGUN):
-        process.kill()
-    os._exit(128 + number)
+    with BEGINNING:
+        for process in BEGUN:
+            process.kill()
+        os._exit(128 + number)
 
 
 def words_of(line):
