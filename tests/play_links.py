@@ -28,7 +28,27 @@ def named(page):
             link = page.value('location.href')
     with Play(link) as play:
         page.open(play.address)
-        return found + ([] if (page.text(), page.value('now')) == (NOTED, 1) else ['a link: %r' % page.text()])
+        found += [] if (page.text(), page.value('now')) == (NOTED, 1) else ['a link: %r' % page.text()]
+    return found + faulty(page)
+
+
+def faulty(page):
+    """What is wrong with a file that has a fault: what is typed into it comes back once another text has taken its place."""
+    typed = 'zephyr 1\ncap 2\npages'
+    with tempfile.TemporaryDirectory() as work:
+        path = os.path.join(work, 'faulty.zephyr')
+        with open(path, 'w', encoding='utf-8') as file:
+            file.write('zephyr 1\ncap\n')
+        with Play(path) as play:
+            page.go('about:blank')
+            page.go(play.address)
+            page.wait('$("fault").textContent')
+            page.type(typed)
+            choose(page, 'held')
+            page.wait('document.title === "held · zplay" && D && !busy')
+            page.value('guarded(undo)(past, future)')
+            page.wait('!busy')
+            return [] if page.text() == typed else ['what was typed into a faulty file: %r' % page.text()]
 
 
 # What a page shows of a link: its fault, its text, its title, and whether there is a run.

@@ -350,6 +350,28 @@ NODES = [(0, '0 page 0 30 page 1', 'no page', 'no wireframe', 'no page'),
 SHOWN_NODES = '[...$("nodes").querySelectorAll("dt, dd")].map(part => part.textContent.trim())'
 
 
+# Types, undoes that, types again and undoes that: the text then, and how much redo had before. Then types, makes a choice, types again and undoes twice:
+# whether that leads to the text with the choice, and to what was typed first.
+TYPED = '''(() => {
+  const enter = remark => { $("text").value = doc.text + remark; $("text").dispatchEvent(new Event("input")); };
+  enter("; one");
+  undo(past, future);
+  enter("; two");
+  const redo = future.length;
+  undo(past, future);
+  const text = doc.text;
+  enter("; three");
+  const first = doc.text;
+  make(["C start"]);
+  const second = doc.text;
+  enter("; four");
+  undo(past, future);
+  const isSecond = doc.text === second;
+  undo(past, future);
+  return [text, redo, isSecond, doc.text === first];
+})()'''
+
+
 def scenarios(page):
     """What is wrong with the names of scenarios, and with what is put aside."""
     found = []
@@ -395,6 +417,8 @@ def scenarios(page):
     choose(page, 'held')
     page.wait('document.title === "held · zplay" && !busy')
     right('an example with the name of a file', 'doc.text === given.examples.held', True)
+    page.begin(SMALLEST)
+    right('what is typed at once behind an undo, and behind a choice', TYPED, [SMALLEST, 0, True, True])
     return found
 
 
