@@ -374,6 +374,9 @@ SCRIPT_FAULTS = [
     script('build: any program is that of the sources', 'zy_bench', 'note_of() { echo "$2" && sha256sum < "$(program_of "$1")"; }', 'note_of() { echo "$2"; }', 'build'),
     script('build: the time of the program is not looked at', 'zy_bench', '  (cd "$top" && find "crates/$1/out/$1" -printf "$what")\n', '', 'build'),
     script('build: names in the order of a language', 'zy_bench', '| LC_ALL=C sort -z |', '| sort -z |', 'build'),
+    script('unproved: a file is looked for elsewhere', 'zy_bench', 'exec rt try "${files[@]}" -- "$@"', 'exec rt try -- "$@"', 'build'),
+    script('unproved: any file is taken', 'zy_bench', 'if [[ -f $word && ($word == /* || /$word/ == */../*) ]]; then', 'if false; then', 'build'),
+    script('unproved: a folder that is not there', 'zy_bench', '&& $# == 2 && ! -d $2 ]]; then', '&& false ]]; then', 'build'),
     script('build: the toolchain is not noted', 'zy_bench', '  rt version > "$program.toolchain"\n', '', 'build'),
     # releases
     script('release: with the times of the files', 'tools/packing/archive.py', 'entry.mode, entry.size = files[name][0], len(files[name][1])',
