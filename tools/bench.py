@@ -30,7 +30,7 @@ SET_PIPE_SIZE = 1031
 PATIENCE = None
 
 # The calls that have begun, but for those that are known to have ended; who begins one, or ends all, has the lock.
-BEGUN, BEGINNING = set(), threading.RLock()
+BEGUN, BEGINNING = set(), threading.Lock()
 
 
 class Refused(Exception):
@@ -110,13 +110,20 @@ def start(words, limits=None, **pipes):
 
 
 def end_with_calls():
-    """From here on a signal that ends a script ends the calls that are under way, too, if it is not ignored."""
+    """From here on a signal that ends a script, and is not ignored, ends the calls that are under way, too. A thread does that which waits for nothing else:
+    the first one hears of a signal only once it goes on."""
+    reader, writer = os.pipe()
+    os.set_blocking(writer, False)
+    signal.set_wakeup_fd(writer)
     for number in (signal.SIGTERM, signal.SIGHUP):
         if signal.getsignal(number) != signal.SIG_IGN:
-            signal.signal(number, kill_calls)
+            signal.signal(number, lambda *_: None)
+    threading.Thread(target=kill_calls, args=(reader,), daemon=True).start()
 
 
-def kill_calls(number, _):
+def kill_calls(reader):
+    """Ends everything once the number of a signal comes."""
+    number = os.read(reader, 1)[0]
     with BEGINNING:
         for process in BEGUN:
             process.kill()
