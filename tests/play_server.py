@@ -280,14 +280,16 @@ def opened():
         script, path = os.path.join(work, 'browser'), os.path.join(work, 'address')
         with open(script, 'w', encoding='utf-8') as file:
             # Some browsers stay in the foreground.
-            file.write('#!/bin/sh\nprintf %%s "$1" > %s.part; mv %s.part %s; exec sleep 30\n' % (path, path, path))
+            file.write('#!/bin/sh\nprintf %%s "$1" > %s.part; mv %s.part %s; exec sleep 50\n' % (path, path, path))
         os.chmod(script, 0o700)
         with Play(opens=script) as play:
             end = time.monotonic() + 20
             while not os.path.exists(path) and time.monotonic() < end:
                 time.sleep(0.05)
             query = '/?' + content(path).decode().partition('?')[2]
+            begun = time.monotonic()
             first, second = (play.request('GET', query, Origin=None, Cookie=None) for _ in range(2))
+            took = time.monotonic() - begun
         os.remove(path)
         with Play('--no-open', opens=script):
             time.sleep(2)
@@ -295,7 +297,7 @@ def opened():
     cookie = 'zplay_%s=%s; HttpOnly; SameSite=Lax; Path=/' % (play.port, play.token)
     return [words for words, is_right in (
         ('statuses %d, %d' % (first[0], second[0]), (first[0], second[0]) == (303, 403)), ('the cookie', first[1]['Set-Cookie'] == cookie),
-        ('--no-open opens it', not is_opened),
+        ('it answers once the browser has ended', took < 30), ('--no-open opens it', not is_opened),
         ('it has the token of the printed address', play.token not in query)) if not is_right]
 
 
