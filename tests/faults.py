@@ -462,7 +462,7 @@ SCRIPT_FAULTS = [
     script('store: a store that does not run has crashed', 'examples/store/rounds.py', 'has_crashed(folder) if crash else is_zero', '(lambda _: True) if crash else is_zero', 'store'),
     script('store: a store that is killed does not run', 'examples/store/rounds.py', 'lambda status: status <= 0 or', 'lambda status: status == 0 or', 'store'),
     script('store: it does not say how a silent one ended', 'examples/store/rounds.py', "errors.strip() or 'the store ended with status %d' % store.returncode", 'errors.strip()', 'store'),
-    script('store: Ctrl-C leaves the store', 'examples/store/rounds.py', '            os.killpg(store.pid, signal.SIGKILL)\n            if', '            if', 'store'),
+    script('store: Ctrl-C leaves the store', 'examples/store/rounds.py', '                os.killpg(store.pid, signal.SIGKILL)\n', '                pass\n', 'store'),
     script('store: Ctrl-C has a trace', 'examples/store/try', '    except KeyboardInterrupt:\n        return 130\n', '', 'store'),
     script('store: what a store says is text', 'examples/store/rounds.py', "encoding='utf-8', errors='replace') as store", "encoding='utf-8') as store", 'store'),
     script('store: a log is text', 'examples/store/rounds.py', "TEXT = {'encoding': 'utf-8', 'errors': 'surrogateescape'}", "TEXT = {'encoding': 'utf-8'}", 'store'),

@@ -10,6 +10,7 @@ import subprocess
 import sys
 import time
 from collections import namedtuple
+from contextlib import suppress
 from itertools import zip_longest
 
 from faults import FAULTS
@@ -121,7 +122,8 @@ def run_store(words, is_well, limit, store=STORE):
         try:
             output, errors = store.communicate(timeout=limit)
         except BaseException as reason:
-            os.killpg(store.pid, signal.SIGKILL)
+            with suppress(ProcessLookupError):
+                os.killpg(store.pid, signal.SIGKILL)
             if isinstance(reason, subprocess.TimeoutExpired):
                 raise Failed('the store did not end within %g s' % limit) from None
             raise
