@@ -352,7 +352,7 @@ SHOWN_NODES = '[...$("nodes").querySelectorAll("dt, dd")].map(part => part.textC
 
 # Types, undoes that, types again and undoes that: the text then, and how much redo had before. Then types, makes a choice, types again and undoes twice:
 # whether that leads to the text with the choice, and to what was typed first.
-TYPED = '''(() => {
+TYPED = '''(async () => {
   const enter = remark => { $("text").value = doc.text + remark; $("text").dispatchEvent(new Event("input")); };
   enter("; one");
   undo(past, future);
@@ -368,7 +368,9 @@ TYPED = '''(() => {
   undo(past, future);
   const isSecond = doc.text === second;
   undo(past, future);
-  return [text, redo, isSecond, doc.text === first];
+  const isFirst = doc.text === first;
+  await new Promise(done => setTimeout(done, 500));  // until what was typed last is asked about
+  return [text, redo, isSecond, isFirst];
 })()'''
 
 
@@ -419,6 +421,7 @@ def scenarios(page):
     right('an example with the name of a file', 'doc.text === given.examples.held', True)
     page.begin(SMALLEST)
     right('what is typed at once behind an undo, and behind a choice', TYPED, [SMALLEST, 0, True, True])
+    page.wait('!busy')
     return found
 
 
