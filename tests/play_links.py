@@ -33,7 +33,8 @@ def named(page):
 
 
 def faulty(page):
-    """What is wrong with a file that has a fault: what is typed into it comes back once another text has taken its place."""
+    """What is wrong with a file that has a fault: it has a link, which leads to it, and nothing is done with the run that is not there; what is typed into it is
+    there when the page is loaded again, and comes back once another text has taken its place."""
     typed = 'zephyr 1\ncap 2\npages'
     with tempfile.TemporaryDirectory() as work:
         path = os.path.join(work, 'faulty.zephyr')
@@ -43,12 +44,31 @@ def faulty(page):
             page.go('about:blank')
             page.go(play.address)
             page.wait('$("fault").textContent')
+            able = page.value('["cut", "migrate"].filter(id => !$(id).disabled)')
+            page.value('store()')
+            linked = page.value('linked(location.hash)')
+            if able or linked != {'text': 'zephyr 1\ncap\n', 'at': 0}:
+                return ['a faulty file: %r can be clicked, the link has %r' % (able, linked)]
             page.type(typed)
+            page.value('new Promise(done => setTimeout(done, 400))')
+            page.reload()
+            page.wait('$("fault").textContent')
+            if page.text() != typed:
+                return ['what was typed into a faulty file, loaded again: %r' % page.text()]
             choose(page, 'held')
             page.wait('document.title === "held · zplay" && D && !busy')
             page.value('guarded(undo)(past, future)')
             page.wait('!busy')
-            return [] if page.text() == typed else ['what was typed into a faulty file: %r' % page.text()]
+            found = [] if page.text() == typed else ['what was typed into a faulty file: %r' % page.text()]
+            page.begin(SMALLEST)
+            page.value('fork(doc.text)')
+            page.type(typed)
+            page.value('new Promise(done => setTimeout(done, 400))')
+            page.reload()
+            page.wait('$("fault").textContent')
+            page.value('guarded(cut)()')
+            shown = page.value('[branches.length, $("tree").hidden, $("note").textContent]')
+            return found + ([] if shown == [2, False, ''] else ['branches of a faulty text, loaded again: %r' % shown])
 
 
 # What a page shows of a link: its fault, its text, its title, and whether there is a run.
@@ -96,6 +116,8 @@ def links(page):
             found += [] if shown == [True, '', 'zplay', False] else ['%s: %r' % (damaged[-12:], shown)]
             able = page.value('["link", "cut", "migrate"].filter(id => !$(id).disabled)')
             found += ['%s: with no run there is %s' % (damaged[-12:], able)] if able else []
+        page.type('zephyr 1')
+        found += ['a faulty text has no link'] if page.value('$("link").disabled') else []
         page.type(SMALLEST)
         page.wait()
         shown = page.value('[D.last, $("fault").textContent, document.title, $("link").disabled]')
@@ -122,6 +144,11 @@ def arrived(page):
     page.value('location.hash = %s' % json.dumps(link))
     page.wait('doc.text === %s && !busy' % json.dumps(NOTED))
     names = [page.value('document.title + $("note").textContent')]
+    page.value('$("view").focus()')
+    page.key('u', 'u')
+    page.wait('doc.text === %s && !busy' % json.dumps(SMALLEST))
+    page.value('location.hash = ""')
+    page.wait('doc.text === given.text && !busy')
     page.value('$("view").focus()')
     page.key('u', 'u')
     page.wait('doc.text === %s && !busy' % json.dumps(SMALLEST))

@@ -373,6 +373,16 @@ TYPED = '''(async () => {
   return [text, redo, isSecond, isFirst];
 })()'''
 
+# Types, and chooses an example at once: whether that is still there when what was typed would be asked about.
+CHOSEN = '''(async () => {
+  $("text").value = doc.text + "; one";
+  $("text").dispatchEvent(new Event("input"));
+  $("example").value = "held";
+  $("example").onchange({target: $("example")});
+  await new Promise(done => setTimeout(done, 400));
+  return [name, doc.text === given.examples.held];
+})()'''
+
 
 def scenarios(page):
     """What is wrong with the names of scenarios, and with what is put aside."""
@@ -421,6 +431,8 @@ def scenarios(page):
     right('an example with the name of a file', 'doc.text === given.examples.held', True)
     page.begin(SMALLEST)
     right('what is typed at once behind an undo, and behind a choice', TYPED, [SMALLEST, 0, True, True])
+    page.wait('!busy')
+    right('an example that is chosen at once behind what is typed', CHOSEN, ['held', True])
     page.wait('!busy')
     return found
 

@@ -17,6 +17,7 @@ from contextlib import contextmanager
 from case import EXAMPLES, PROGRAM, TOP, content
 from playing import (ANOMALY, DEADLOCK, GONE, HELD, MIGRATION, NOTED, SEARCH, SMALLEST, TEXT, VERDICTS, ZPLAY, Play, bare, first_choices, is_program,
                      loops, steps_of, zviewed, zy_bench)
+from processes import comes
 from waits import SCENARIOS
 
 
@@ -52,7 +53,9 @@ def answered(play):
         ('a position that is none', 400, play.request('POST', '/run', json.dumps({'text': SMALLEST, 'at': 'x'}))),
         ('a run that is no name', 400, play.request('POST', '/run', json.dumps({'text': SMALLEST, 'base': [1]}))),
         ('deep JSON', 400, play.request('POST', '/run', '[' * 200000)),
-        ('a long question', 413, play.request('POST', '/run', None, **{'Content-Length': '99999999'}))]
+        ('a long question', 413, play.request('POST', '/run', None, **{'Content-Length': '99999999'})),
+        *(('a long text', 413, play.request('POST', '/run', 'x' * (7 << 20))) for _ in range(3)),
+        ('a long text of no page', 403, play.request('POST', '/run', 'x' * (7 << 20), Origin=None))]
     found = ['%s: status %d, wanted %d' % (name, answer[0], status) for name, status, answer in wanted if answer[0] != status]
     page = wanted[0][2]
     elsewhere = re.search(rb'(?:src|href)="(?!style.css|script.js|data:,)', page[2])
@@ -253,10 +256,7 @@ def broken_off():
         line, answer, process = begun_search(play)
         answer.close()
         line.close()
-        end = time.monotonic() + 10
-        while is_program(process) and time.monotonic() < end:
-            time.sleep(0.05)
-        if is_program(process):
+        if not comes(lambda: not is_program(process)):
             yield 'a search goes on whose page has gone'
 
 
@@ -283,9 +283,7 @@ def opened():
             file.write('#!/bin/sh\nprintf %%s "$1" > %s.part; mv %s.part %s; exec sleep 50\n' % (path, path, path))
         os.chmod(script, 0o700)
         with Play(opens=script) as play:
-            end = time.monotonic() + 20
-            while not os.path.exists(path) and time.monotonic() < end:
-                time.sleep(0.05)
+            comes(lambda: os.path.exists(path))
             query = '/?' + content(path).decode().partition('?')[2]
             begun = time.monotonic()
             first, second = (play.request('GET', query, Origin=None, Cookie=None) for _ in range(2))

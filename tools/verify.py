@@ -10,6 +10,7 @@ import sys
 
 sys.path.insert(0, os.path.dirname(os.path.realpath(__file__)))
 
+from files import status_of
 from packing.archive import Fault
 from packing.making import Unbuilt, made
 from packing.record import read
@@ -58,11 +59,9 @@ def main(path):
     except OSError as error:
         print('%s: Read: %s' % (error.filename or path, error.strerror), file=sys.stderr)
         return 5
-    except KeyboardInterrupt:
-        return 130
     print('\n'.join(lines))
     return 0 if is_same else 1
 
 
 if __name__ == '__main__':
-    sys.exit(main(*sys.argv[1:]))
+    sys.exit(status_of(lambda: main(*sys.argv[1:]), 'zy_bench'))

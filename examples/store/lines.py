@@ -2,6 +2,7 @@
 the message that was sent, if one was. A line whose tail is missing has no outcome."""
 
 import json
+import re
 
 
 class Words:
@@ -13,8 +14,8 @@ class Words:
     def tail(outcome, sent=None):
         return ' -> %s%s\n' % (outcome, ' ! ' + sent if sent else '')
 
-    # What is between a choice and what came of it, and what ends a line without that.
-    BEHIND, NO_TAIL = ' -> ', '\n'
+    # What of a tail a line ends with, perhaps nothing; and what ends a line without one.
+    TAIL, NO_TAIL = re.compile(r'(\s+(-(>(\s.*)?)?)?)?$'), '\n'
 
 
 class Objects:
@@ -26,7 +27,8 @@ class Objects:
     def tail(outcome, sent=None):
         return ', "came": %s%s}\n' % (json.dumps(outcome), ', "sent": %s' % json.dumps(sent) if sent else '')
 
-    BEHIND, NO_TAIL = ', "came"', '}\n'
+    # Another store may leave out the spaces, or have more.
+    TAIL, NO_TAIL = re.compile(r'\s*(,\s*("(c(a(m(e(".*)?)?)?)?)?)?)?$'), '}\n'
 
 
 def form_of(is_json):

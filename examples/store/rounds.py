@@ -13,11 +13,13 @@ from collections import namedtuple
 from contextlib import suppress
 from itertools import zip_longest
 
-from faults import FAULTS
-from lines import form_of
-
 HERE = os.path.dirname(os.path.realpath(__file__))
 TOP = os.path.dirname(os.path.dirname(HERE))
+sys.path.append(os.path.join(TOP, 'tools'))
+
+from faults import FAULTS
+from files import status_of
+from lines import form_of
 
 # ZY_BENCH names another program than the one of this checkout.
 PROGRAM = os.environ.get('ZY_BENCH', os.path.join(TOP, 'zy_bench'))
@@ -85,14 +87,7 @@ def log_of(folder, name, is_json):
     text = content(path) if os.path.exists(path) else ''
     lines, end, last = text.rpartition('\n')
     form = form_of(is_json)
-    return lines + end + (without_tail(last, form.BEHIND) + form.NO_TAIL if last else '')
-
-
-def without_tail(line, behind):
-    """The choice of a line that a crash cut off behind the choice, perhaps in the middle of what is between that and what came of it."""
-    choice = line.split(behind)[0]
-    size = next(size for size in range(len(behind) - 1, -1, -1) if choice.endswith(behind[:size]))
-    return choice[:len(choice) - size]
+    return lines + end + (form.TAIL.sub('', last, 1) + form.NO_TAIL if last else '')
 
 
 def content(*path):
@@ -114,10 +109,9 @@ def ask(words, given):
 STORE = (sys.executable, os.path.join(HERE, 'store.py'))
 
 
-def run_store(words, is_well, limit, store=STORE):
-    """Runs a store, and returns how often its fault made a difference: the last word that it prints, if that is a number, else 0. Whether it has done what it
-    was run for, its status says."""
-    command = [*store, *words]
+def run_store(folder, flags, is_to_crash=False, limit=LIMIT, store=STORE):
+    """Runs a store over the scenario in a folder, and returns how often its fault made a difference: the last word that it prints, if that is a number, else 0."""
+    command = [*store, os.path.join(folder, 'scenario'), folder, *flags]
     with subprocess.Popen(command, stdout=subprocess.PIPE, stderr=subprocess.PIPE, start_new_session=True, encoding='utf-8', errors='replace') as store:
         try:
             output, errors = store.communicate(timeout=limit)
@@ -127,20 +121,16 @@ def run_store(words, is_well, limit, store=STORE):
             if isinstance(reason, subprocess.TimeoutExpired):
                 raise Failed('the store did not end within %g s' % limit) from None
             raise
-    if not is_well(store.returncode):
+    if not has_run(store.returncode, folder, is_to_crash):
         raise Failed(errors.strip() or 'the store ended with status %d' % store.returncode)
     last = output.split()[-1:]
     return int(last[0]) if last and last[0].isdecimal() else 0
 
 
-def is_zero(status):
-    """Whether a store that does not crash has run."""
-    return status == 0
-
-
-def has_crashed(folder):
-    """Whether a store that was to crash has run, by its status: it has if it ended well, was killed, or left a log."""
-    return lambda status: status <= 0 or any(os.path.exists(log_path(folder, name)) for name in LOGS)
+def has_run(status, folder, is_to_crash):
+    """Whether a store has done what it was run for: it ended well; or it was to crash, and was killed or left a log."""
+    has_log = any(os.path.exists(log_path(folder, name)) for name in LOGS)
+    return status == 0 or is_to_crash and (status < 0 or has_log)
 
 
 def clear(folder):
@@ -187,7 +177,7 @@ def play(text, folder, seed, fault=None, crash=None, store=STORE, is_json=False,
     put(text, folder, 'scenario')
     given = ['--seed', str(seed)] + (['--fault', fault] if fault else []) + (['--crash', '%.4f' % crash] if crash else []) + ['--json'] * is_json
     begun = time.monotonic()
-    slips = run_store([os.path.join(folder, 'scenario'), folder, *given], has_crashed(folder) if crash else is_zero, LIMIT, store)
+    slips = run_store(folder, given, bool(crash), store=store)
     ran = time.monotonic() - begun
     logs = ''.join(log_of(folder, name, is_json) for name in LOGS)
     put(text + logs, folder, 'input')

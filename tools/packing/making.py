@@ -29,7 +29,7 @@ def ask(*words):
     """What ./zy_bench writes to these words."""
     done = subprocess.run([SCRIPT, *words], stdin=subprocess.DEVNULL, stdout=subprocess.PIPE, check=False)
     if done.returncode:
-        raise Unbuilt(done.returncode)
+        raise Unbuilt(done.returncode if done.returncode > 0 else 128 - done.returncode)
     return done.stdout
 
 

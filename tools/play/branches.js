@@ -15,7 +15,7 @@ function fork(text) {
 }
 // Shows a branch at a position, or else where it was left, and notes something of it.
 function visit(id, at, more = {}) {
-  const branch = branchOf(id), to = at === undefined ? placeIn(branch) : at, isShown = id === current && !busy;
+  const branch = branchOf(id), to = at === undefined ? placeIn(branch) : at, isShown = D && id === current && !busy;
   put({at: now});
   note('');
   if (id !== current) [previous, current] = [current, id];

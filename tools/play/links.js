@@ -28,7 +28,7 @@ function keptBranches(text) {
 }
 async function store() {
   keepBranches();
-  const run = `${now}.${await packed(doc.text)}`;
+  const run = `${Math.max(now, 0)}.${await packed(doc.text)}`;
   history.replaceState({name}, '', `#${run}.${checksum(run)}`);
 }
 const storeSoon = debounced(store, 200);
@@ -41,7 +41,10 @@ async function linked(hash) {
 // Takes what is in an address, or else what zplay was started with.
 async function arrive(hash) {
   note('');
-  if (!hash) return take(given.text, GIVEN);
+  if (!hash) {
+    putAside();
+    return take(given.text, GIVEN);
+  }
   const run = await linked(hash);
   if (!run) return showDamaged();
   if (D && run.text === doc.text) return show(run.at);
@@ -60,8 +63,8 @@ function showDamaged() {
     document.body.classList.remove('stale');
     return storeSoon();
   }
-  for (const button of ['link', 'cut', 'migrate']) $(button).disabled = true;
-  $('migrate').textContent = 'A whole migration';
+  drawNoRun();
+  $('link').disabled = true;
   $('fault').scrollIntoView({block: 'nearest'});
   name = '';
   $('example').selectedIndex = -1;

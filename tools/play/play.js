@@ -140,7 +140,11 @@ async function setText(text, at) {
     if (mine !== question) return;
     busy = false;
     showFault(answer.fault);
-    if (answer.fault) return;
+    $('link').disabled = false;
+    if (answer.fault) {
+      if (!D) drawNoRun();
+      return storeSoon();
+    }
     const run = {...runOf(answer), text, title};
     put({same: run.verdict[0][1]});
     drawTree();
@@ -199,7 +203,7 @@ function make(choices, from = doc, isFound = false) {
 }
 // Takes the choices behind the shown step away.
 function cut() {
-  if (now === D.last) return;
+  if (!D || now === D.last) return;
   remember();
   note(`${D.last - now} ${D.last - now === 1 ? 'choice is' : 'choices are'} taken away; undo brings them back`);
   return setText(textHere(), now);
@@ -370,7 +374,6 @@ const isSettled = () => ['A', 'B'].every(node => ['normal', 'empty'].includes(at
 function drawNext() {
   $('after').textContent = `After step ${now}`;
   $('cut').disabled = now === D.last;
-  $('link').disabled = false;
   $('migrate').textContent = isSettled() ? 'A whole migration' : 'Let the migration end';
   const lanes = candidates(), text = textHere();
   drawLanes(lanes, known.get(text));
@@ -387,6 +390,12 @@ const lookUpSoon = debounced(guarded(async () => {
   known.set(text, outcomes.fault ? choices.map(none) : outcomes);
   if (text === textHere() && !busy) drawLanes(lanes, known.get(text));
 }), 30);
+// Where there is no run yet, there is nothing to go on with; branches may have come with an address.
+function drawNoRun() {
+  for (const button of ['cut', 'migrate']) $(button).disabled = true;
+  $('migrate').textContent = 'A whole migration';
+  drawTree();
+}
 // Adds choices that the server has found.
 async function makeAnswered(path, body) {
   const from = {...doc}, answer = await ask(path, body);
@@ -443,7 +452,7 @@ const save = guarded(async as => {
 });
 
 // ---- what is clicked and typed
-const setTypedSoon = debounced(guarded(() => setText($('text').value, doc.at)), 120);
+const setTypedSoon = debounced(guarded(() => setText(doc.text, doc.at)), 120);
 $('text').oninput = () => {
   if (Date.now() - typed > 1500) remember();
   typed = Date.now();

@@ -28,6 +28,9 @@ Or put the # and what follows it behind the address that your own zplay printed.
 # The longest question, in bytes. A scenario has at most 4 MiB.
 LONGEST = 5 << 20
 
+# How much is read of one that is refused.
+MOST = 64 << 20
+
 # At most this many questions are at work at a time; others wait.
 ROOM = threading.BoundedSemaphore(8)
 
@@ -122,10 +125,9 @@ class Handler(BaseHTTPRequestHandler):
 
     def do_POST(self):
         refusal, size = self.refusal(), self.headers.get('Content-Length', '')
-        if refusal:
-            return self.send(403, 'text/plain', refusal.encode())
-        if not size.isdecimal() or int(size) > LONGEST:
-            return self.send(413, 'text/plain', b'too long')
+        if refusal or not size.isdecimal() or int(size) > LONGEST:
+            self.send(403 if refusal else 413, 'text/plain', (refusal or 'too long').encode())
+            return self.pass_over(int(size) if size.isdecimal() else 0)
         try:
             asked = json.loads(self.rfile.read(int(size)))
             with ROOM:
@@ -136,6 +138,13 @@ class Handler(BaseHTTPRequestHandler):
             return self.send_json({'fault': {'line': 0, 'words': str(fault)}})
         except (LookupError, TypeError, ValueError, AttributeError, RecursionError):
             return self.send(400, 'text/plain', b'no such question')
+
+    def pass_over(self, size):
+        """Reads a question that was refused, up to a bound: who still sends it would not hear why if the line were cut."""
+        left = min(size, MOST)
+        while left > 0:
+            piece = self.rfile.read(min(left, 1 << 16))
+            left = left - len(piece) if piece else 0
 
     def search(self, asked):
         """Sends what a search reports as it comes, a line each; a browser that goes away ends it."""

@@ -39,7 +39,7 @@ class Goals:
     def shown(self):
         return ['goal %d %s' % goal for goal in sorted(self.set.items())]
 
-    def firing(self, text, places):
+    def firing(self, places, text):
         """The first of some positions at which a goal turns true, and the lowest number of such a goal; none where none does."""
         turning = {number: set(turns(goal, text)) for number, goal in self.set.items()}
         hits = ((place, number) for place in places for number in sorted(turning) if place in turning[number])

@@ -69,7 +69,7 @@ class Session:
             raise Fault('%s: the positions are 0 to %d' % (reply, self.last()))
         place, is_stop = int(found.group(1)), reply.startswith('stop')
         if command in ('cont', 'rcont'):
-            goal = self.goals.firing(self.text(self.choices), self.passed(place, is_stop))
+            goal = self.about(self.goals.firing, self.passed(place, is_stop))
             if goal:
                 return self.go(goal[0]) + ['goal %d at %d' % goal[::-1]] + self.here()
         fired = [reply] if is_stop else ['no stop fires'] if 'cont' in command else []
@@ -99,10 +99,10 @@ class Session:
             raise Fault('no such goal')
         return ['deleted goal %s' % number]
 
-    def about(self, ask, goal):
-        """What is answered about a goal and the scenario."""
+    def about(self, ask, what):
+        """What is answered about a goal, or the goals at some positions, and the scenario."""
         try:
-            return ask(goal, self.text(self.choices))
+            return ask(what, self.text(self.choices))
         except NoGoal as fault:
             raise Fault(str(fault)) from None
 
