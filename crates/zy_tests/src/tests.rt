@@ -1,11 +1,10 @@
 //! A module has the name of what it tests.
 
+mod faults;
 mod image;
 mod json;
 mod modes;
-mod scenario;
 mod streams;
 mod threads;
 mod tree;
-mod wire;
 mod word;

@@ -1,9 +1,8 @@
-//! A stream that fails in each call, and the words of the faults.
+//! A stream that fails in each call.
 
 use std::io::{self, ErrorKind, Write};
-use std::test::Fail;
 use zy_io::writing::write_all;
-use zy_io::{CountingWriter, ReadFault, Sink, TextFault, WriteFault};
+use zy_io::{CountingWriter, Sink, WriteFault};
 
 /// Takes nothing.
 #[derive(Drop)]
@@ -25,22 +24,4 @@ fn a_failed_flush_is_counted(rt: HostRuntime) {
     assert!(rt; sink.flush().is_err());
     assert_eq!(rt; write_all(&mut sink, b"a"), Err(WriteFault));
     assert_eq!(rt; sink.failures(), 2);
-}
-
-#[test]
-fn faults_in_words(rt: HostRuntime) -> Result<(), Fail> {
-    let told = format!(in rt.alloc();
-        "{}; {}; {}",
-        ReadFault::Read,
-        ReadFault::TooLong,
-        ReadFault::Memory
-    )?;
-    let wanted =
-        "the input could not be read; the input has at most 4194304 bytes; there is no memory for the input";
-    assert_eq!(rt; told.as_str(), wanted);
-    let told = format!(in rt.alloc(); "{WriteFault}; {}; {}", TextFault::Write, TextFault::Memory)?;
-    let wanted =
-        "the output could not be written; the output could not be written; there is no memory for a line of the output";
-    assert_eq!(rt; told.as_str(), wanted);
-    Ok(())
 }

@@ -1,12 +1,13 @@
 //! The worked run on a node that is not there yet, by three threads: what its gates are called with, in which order it
 //! may go, and a step that is refused memory.
 
-use std::alloc::{AllocError, Global};
+use super::image::scenario;
+use std::alloc::Global;
 use std::sync::atomic::{AtomicU64, Ordering};
 use std::sync::{OnceLock, Wait};
 use std::test::Fail;
 use std::thread::{Threads, yield_now};
-use zy_isa::{Actor, Choice, Instr, Node, Program, Reg, Rule, Scenario};
+use zy_isa::{Actor, Choice, Node};
 use zy_table::{Entry, Outcome};
 use zy_threads::run::run_allowed;
 use zy_threads::{Allowance, Gate, Unlimited};
@@ -30,19 +31,6 @@ const CHOICES: &[Choice] = &[
 /// How often a gate looks for what it waits for: long enough, and never for ever.
 const TURNS: u32 = 10_000_000;
 
-fn scenario(alloc: Global) -> Result<Scenario, AllocError> {
-    let Ok(program) = Program::verify(alloc, &[Instr::Set(Reg::R0, 5), Instr::Commit]) else {
-        return Err(AllocError);
-    };
-    let mut programs = Vec::new(alloc);
-    programs.push(program)?;
-    let choices = CHOICES.to_vec(alloc)?;
-    match Scenario::new(1, 4, 1, Rule::Held, Vec::new(alloc), programs, choices) {
-        Ok(scenario) => Ok(scenario),
-        Err(_) => Err(AllocError),
-    }
-}
-
 /// Whether the number came up to this within the turns.
 fn waited(number: &AtomicU64, least: u64) -> bool {
     for _ in 0..TURNS {
@@ -61,8 +49,10 @@ fn steps<W: Allowance + Sync>(
     gate: &(impl Gate + Sync),
     allowance: &W,
 ) -> Result<Vec<Entry>, Fail> {
-    let machine = run_allowed(rt, alloc, scenario(alloc)?, gate, allowance)?;
-    Ok(machine.entries().to_vec(alloc)?)
+    let machine = run_allowed(rt, alloc, scenario(alloc, CHOICES)?, gate, allowance)?;
+    let steps = machine.entries().to_vec(alloc);
+    machine.discard();
+    Ok(steps?)
 }
 
 /// Whether the actor's steps are its choices, in order.
@@ -324,6 +314,22 @@ impl Allowance for OneRefused {
     }
 }
 
+/// Whether the run has an answer.
+fn is_made<W: Allowance + Sync>(
+    rt: &(impl Threads + Wait + Sync),
+    alloc: Global,
+    gate: &(impl Gate + Sync),
+    allowance: &W,
+) -> Result<bool, Fail> {
+    match run_allowed(rt, alloc, scenario(alloc, CHOICES)?, gate, allowance) {
+        Ok(machine) => {
+            machine.discard();
+            Ok(true)
+        }
+        Err(_) => Ok(false),
+    }
+}
+
 /// Whether a run with this step refused, from 0, has no answer, and cuts one actor short at most.
 fn is_refused(
     rt: &(impl Threads + Wait + Sync),
@@ -335,9 +341,9 @@ fn is_refused(
         asked: AtomicU64::new(0),
         refused,
     };
-    let answer = run_allowed(rt, alloc, scenario(alloc)?, &gate, &allowance);
+    let is_made = is_made(rt, alloc, &gate, &allowance)?;
     let quiet = gate.wrong.load(Ordering::SeqCst) == 0;
-    Ok(answer.is_err() && quiet && gate.short() <= 1)
+    Ok(!is_made && quiet && gate.short() <= 1)
 }
 
 #[test]
