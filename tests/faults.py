@@ -105,7 +105,7 @@ SCRIPT_FAULTS = [
     script('zview: a bar is yellow until nobody has a lock', 'tools/waiting.py', 'holders - {step.txn}', 'holders', 'picture stretches'),
     script('zview: a bar is yellow until the page moves', 'tools/waiting.py', 'return where == step.actor and not holders', 'return not holders',
            'picture stretches'),
-    script('zview: a bar is yellow until the mode changes once more', 'tools/waiting.py', "if value != 'dinit' if", "if value == 'normal' if", 'picture stretches'),
+    script('zview: a bar is yellow until the mode changes again', 'tools/waiting.py', "if value != 'dinit' if", "if value == 'normal' if", 'picture stretches'),
     script('zview: the name of a mode in the last row is cut off', 'tools/picture/drawing.py', '(9 if is_short else 15)', '15', 'picture stretches'),
     script('zview: the sentence on a step says nothing of what it sent', 'tools/picture/page.js', '+ waits + sends', '+ waits', ANOMALY),
     # zdb

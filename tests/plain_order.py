@@ -59,7 +59,7 @@ OUTCOMES_OF = outcomes_of_actions()
 
 
 def is_possible(action, told):
-    """Whether an action can have the outcome that is told."""
+    """Whether an action can have the outcome that a line has."""
     return any(all(word == other for word, other in zip(told, outcome)) for outcome in OUTCOMES_OF[action])
 
 
@@ -162,8 +162,8 @@ def places_after(scenario, logs, rooms, place):
 
 
 def order(scenario, state, all_logs, gap, most, reduced=True):
-    """Whether there is an order of the logs from a state on, if at most so many places are reached. If it is reduced, some lines are followed alone, which may
-    come before all that the others do."""
+    """Whether there is an order of the logs from a state on, if at most `most` places are reached; else TooMany. If it is reduced, some lines
+    are followed alone, which may come before all that the others do."""
     logs, rooms = [made_of(log) for log in all_logs], [room_in(log, gap) for log in all_logs]
     places, level = set(), {Place((0, 0, 0), (0, 0, 0), state)}
     while level:
@@ -178,7 +178,7 @@ def order(scenario, state, all_logs, gap, most, reduced=True):
 
 
 def fillings(scenario, actor, gap):
-    """The lines that a gap of an actor may stand for: at most so many of steps of which nothing was logged."""
+    """The lines that a gap of an actor may stand for: at most `gap` lines of steps of which nothing was logged."""
     lines = [Line(choice, [], None) for choice in considered(scenario, True) if choice[0] == actor]
     return [filling for count in range(gap + 1) for filling in product(lines, repeat=count)]
 

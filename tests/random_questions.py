@@ -10,7 +10,7 @@ MOST = 400
 KEYS = range(8)
 NAMES = ('alpha', 'not', 'txn', 'B', 'any')     # a name may be any word of the grammar; a goal that says `any` does not mean it
 
-# How deep goals are, and how facts are drawn: so often, until one holds in some of so many states and in others does not.
+# How deep goals are, and how facts are drawn: TRIES times, until one holds in some of LOOKED_AT states and not in others.
 DEPTHS = (0, 0, 1, 1, 2, 2, 3, 4, 5)
 TRIES, LOOKED_AT = 6, 25
 
