@@ -42,9 +42,9 @@ impl NodePair {
         ensures state { IfOk result (λ copy. state_of copy ≡ state_of self.now) }
         ensures limits { IfOk result (λ copy. limits_in copy ≡ limits_in self.now) }
     {
+        let book = self.book.copy(alloc)?;
         let a = self.a.copy(alloc)?;
         let b = self.b.copy(alloc)?;
-        let book = self.book.copy(alloc)?;
         Ok(NodePair { alloc, a, b, book })
     }
 
