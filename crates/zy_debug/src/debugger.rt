@@ -65,13 +65,18 @@ impl Debugger {
     {
         let machine = start(alloc, scenario)?;
         let copies = Copies::new(machine.scenario().choices().len(), every, ring);
-        let checkpoints = Checkpoints::new(alloc, copies)?;
-        Ok(Debugger {
-            alloc,
-            machine,
-            stops: Stops::new(),
-            checkpoints,
-        })
+        match Checkpoints::new(alloc, copies) {
+            Ok(checkpoints) => Ok(Debugger {
+                alloc,
+                machine,
+                stops: Stops::new(),
+                checkpoints,
+            }),
+            Err(fault) => {
+                machine.discard();
+                Err(fault)
+            }
+        }
     }
 
     /// How many choices are done.

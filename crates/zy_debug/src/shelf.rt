@@ -48,7 +48,7 @@ impl Shelf {
     {
         if !self.is_kept(machine.len()) {
             let copy = machine.copy(alloc)?;
-            self.ring.push_back(copy);
+            drop(self.ring.push_back(copy));
         }
         Ok(())
     }

@@ -36,7 +36,9 @@ fn write_replies<K: Sink>(
         (opened scenario) (lines_of commands.now) }
 {
     let mut debugger = Debugger::open(alloc, scenario, every, ring)?;
-    write_session(alloc, &mut debugger, commands, sink)
+    let written = write_session(alloc, &mut debugger, commands, sink);
+    drop(debugger);
+    written
 }
 
 /// Answers an input: a scenario text through its first line whose only word is `end`, and below it commands, one a line. Writes

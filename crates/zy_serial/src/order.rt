@@ -1,5 +1,5 @@
 //! The migration order of a run.
-ghost use Rattle.std.specs.Prelude.{◌≡◌, ◌<◌, ◌+◌, length, true, IfOk, OnOk};
+ghost use Rattle.std.specs.Prelude.{◌≡◌, ◌<◌, ◌+◌, [], length, true, IfOk, OnOk};
 ghost use Rattle.zy_isa.specs.Choices.{names_below};
 ghost use Rattle.zy_isa.specs.Limits.{max_choices};
 ghost use Rattle.zy_laws.specs.SourceFirst.{SerialIn, sorted_step};
@@ -24,12 +24,32 @@ pub fn migration_order(alloc: Global, machine: &Machine) -> Result<Vec<CommitRec
         ≡ laws.migration_order machine.now.scenario (choices_of machine.now.entries)) }
     ensures serial { IfOk result (λ order. SerialIn order.items machine.now.scenario machine.now.state) }
 {
+    let mut replay = machine.reopen(alloc)?;
+    let order = sort_along(alloc, machine, &mut replay);
+    replay.discard();
+    order
+}
+
+/// The commits of a machine's history in the migration order. A machine where nothing has happened makes the history again.
+fn sort_along(
+    alloc: Global,
+    machine: &Machine,
+    replay: &mut Machine,
+) -> Result<Vec<CommitRecord>, Fault>
+    requires { replay.old ≡ record {
+      scenario = machine.now.scenario;
+      state = table.opening machine.now.scenario;
+      entries = [];
+    } }
+    ensures order { IfOk result (λ order. order.items
+        ≡ laws.migration_order machine.now.scenario (choices_of machine.now.entries)) }
+    ensures serial { IfOk result (λ order. SerialIn order.items machine.now.scenario machine.now.state) }
+{
     // Proof: the state is serial in that order.
     source_first();
-    let mut replay = machine.reopen(alloc)?;
     let mut sorted = Sorted::new(alloc);
     for entry in machine.entries() {
-        advance(&mut replay, &mut sorted, entry.choice)?;
+        advance(replay, &mut sorted, entry.choice)?;
     }
     sorted.joined()
 }

@@ -71,6 +71,7 @@ fn close<S: Of, C: Side, A: Side, B: Side>(
 {
     let PerActor { c, a, b } = done;
     if c.refused || a.refused || b.refused {
+        drop(desk);
         return Err(AllocError);
     }
     let Desk {

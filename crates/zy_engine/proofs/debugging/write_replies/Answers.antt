@@ -19,8 +19,8 @@ returns-in_err-debugger g c =
 
 pub returns : goal.returns
 returns g c = (
-  c.write_session.new.debugger,
-  subst (λ s. WroteSession (g.K.Sink.written c.args.sink.now) (g.K.Sink.written c.write_session.new.sink) (g.K.Sink.failures c.args.sink.now)
-      (g.K.Sink.failures c.write_session.new.sink) c.write_session.result s (lines_of c.args.commands.now) c.write_session.new.debugger)
-      c.in_ok-debugger.ensures c.write_session.ensures,
+  c.write_session-written.new.debugger,
+  subst (λ s. WroteSession (g.K.Sink.written c.args.sink.now) (g.K.Sink.written c.write_session-written.new.sink) (g.K.Sink.failures c.args.sink.now)
+      (g.K.Sink.failures c.write_session-written.new.sink) c.write_session-written.result s (lines_of c.args.commands.now) c.write_session-written.new.debugger)
+      c.in_ok-debugger.ensures c.write_session-written.ensures,
 )

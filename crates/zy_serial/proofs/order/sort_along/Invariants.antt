@@ -2,7 +2,7 @@ use Rattle.std.proofs.Common.{◌≡◌, drop, [], length}
 use Rattle.zy_laws.specs.SourceFirst.{sorted}
 use Rattle.zy_machine.specs.Histories.{choices_of}
 use Rattle.zy_table.specs.Play.{opening}
-use Rattle.zy_serial.proofs.order.migration_order.Given as goal
+use Rattle.zy_serial.proofs.order.sort_along.Given as goal
 
 abbrev pub invariant-loop-entry : goal.invariant-loop-entry
 invariant-loop-entry l =

@@ -5,7 +5,7 @@ use Rattle.zy_laws.specs.SourceFirst.{SerialIn, Sorted, sorted, migration_order}
 use Rattle.zy_machine.specs.Histories.{choices_of}
 use Rattle.zy_machine.proofs.HistoryLemmas.{length-choices_of}
 use Rattle.zy_serial.proofs.OrderLemmas.{named_there, sorted_next}
-use Rattle.zy_serial.proofs.order.migration_order.Goals as goal
+use Rattle.zy_serial.proofs.order.sort_along.Goals as goal
 
 pub advance-requires-clause-named : goal.advance-requires-clause-named
 advance-requires-clause-named c =
@@ -31,7 +31,7 @@ loop-entry-preserved c =
     }
 
 -- at the end of the loop all commits are sorted
-all_sorted : (c : goal.Joined-replay-6) → c.loop-entry.sorted.first ++ c.loop-entry.sorted.later
+all_sorted : (c : goal.After-joined) → c.loop-entry.sorted.first ++ c.loop-entry.sorted.later
     ≡ migration_order c.args.machine.now.scenario (choices_of c.args.machine.now.entries)
 all_sorted c =
     let m = c.args.machine.now in
