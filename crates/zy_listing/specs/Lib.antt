@@ -1,4 +1,5 @@
 pub mod Texts
+pub mod Outcomes
 pub mod Listing
 pub mod Locked
 pub mod Nodes

@@ -1,6 +1,7 @@
 //! The words of the machine's plain types.
 ghost use Rattle.std.specs.Prelude.{◌≡◌};
 ghost use Rattle.zy_table.specs.declared.outcome.Outcome.TheVariants as outcome;
+ghost use Rattle.zy_listing.specs.Outcomes.{parts_text};
 ghost use Rattle.zy_listing.specs.Texts.{kind_text, link_word, mode_word, outcome_text, place_text, why_text};
 
 use std::alloc::AllocError;
@@ -55,6 +56,79 @@ impl Line for SplitText {
     }
 }
 
+/// What the text of an outcome is made of.
+#[derive(Clone, Copy)]
+enum OutcomeParts {
+    /// These words.
+    Words(&'static str),
+    /// Words and a node.
+    AtNode(&'static str, Node),
+    /// Words and a number.
+    Numbered(&'static str, u16),
+    /// Words and why a transaction was aborted.
+    Because(&'static str, Why),
+    /// The three numbers of a split.
+    Split(SplitText),
+}
+
+impl Line for OutcomeParts {
+    ghost text = { parts_text };
+
+    fn append(&self, line: &mut LineBuffer) -> Result<(), AllocError> {
+        match *self {
+            OutcomeParts::Words(words) => words.append(line),
+            OutcomeParts::AtNode(words, node) => joined!(words, Canonical(node)).append(line),
+            OutcomeParts::Numbered(words, number) => joined!(words, Decimal(number)).append(line),
+            OutcomeParts::Because(words, why) => joined!(words, WhyText(why)).append(line),
+            OutcomeParts::Split(split) => split.append(line),
+        }
+    }
+}
+
+/// What the text of this outcome is made of.
+fn outcome_parts(outcome: Outcome) -> OutcomeParts
+    ensures { parts_text result ≡ outcome_text outcome }
+{
+    match outcome {
+        Outcome::Started => OutcomeParts::Words("started"),
+        Outcome::BadMode => OutcomeParts::Words("badmode"),
+        Outcome::Began(node) => OutcomeParts::AtNode("began ", node),
+        Outcome::Idle => OutcomeParts::Words("idle"),
+        Outcome::Elsewhere => OutcomeParts::Words("elsewhere"),
+        Outcome::NotYet => OutcomeParts::Words("notyet"),
+        Outcome::Did => OutcomeParts::Words("did"),
+        Outcome::Split {
+            page,
+            new_page,
+            boundary,
+        } => OutcomeParts::Split(SplitText {
+            page,
+            new_page,
+            boundary,
+        }),
+        Outcome::Aborted(why) => OutcomeParts::Because("aborted ", why),
+        Outcome::Committed(place) => OutcomeParts::Numbered("committed ", u16::from(place)),
+        Outcome::Waits(page) => OutcomeParts::Numbered("waits ", page),
+        Outcome::Pulls(page) => OutcomeParts::Numbered("pulls ", page),
+        Outcome::Awaits(page) => OutcomeParts::Numbered("awaits ", page),
+        Outcome::NoMessage => OutcomeParts::Words("nomessage"),
+        Outcome::GotWire => OutcomeParts::Words("got wire"),
+        Outcome::GotReady => OutcomeParts::Words("got ready"),
+        Outcome::GotDual => OutcomeParts::Words("got dual"),
+        Outcome::Stale(page) => OutcomeParts::Numbered("stale ", page),
+        Outcome::Held(page) => OutcomeParts::Numbered("held ", page),
+        Outcome::GotPull(page) => OutcomeParts::Numbered("got pull ", page),
+        Outcome::GotPage(page) => OutcomeParts::Numbered("got page ", page),
+        Outcome::GotFinish => OutcomeParts::Words("got finish"),
+        Outcome::GotDone => OutcomeParts::Words("got done"),
+        Outcome::Stray => OutcomeParts::Words("stray"),
+        Outcome::Finishing => OutcomeParts::Words("finishing"),
+        Outcome::Active(t) => OutcomeParts::Numbered("active ", u16::from(t)),
+        Outcome::Pushed(page) => OutcomeParts::Numbered("pushed ", page),
+        Outcome::NoPush => OutcomeParts::Words("nopush"),
+    }
+}
+
 /// What came of a step.
 #[derive(Clone, Copy)]
 pub struct OutcomeText(pub Outcome);
@@ -63,47 +137,7 @@ impl Line for OutcomeText {
     ghost text = { λ o. outcome_text o.0 };
 
     fn append(&self, line: &mut LineBuffer) -> Result<(), AllocError> {
-        match self.0 {
-            Outcome::Started => "started".append(line),
-            Outcome::BadMode => "badmode".append(line),
-            Outcome::Began(node) => joined!("began ", Canonical(node)).append(line),
-            Outcome::Idle => "idle".append(line),
-            Outcome::Elsewhere => "elsewhere".append(line),
-            Outcome::NotYet => "notyet".append(line),
-            Outcome::Did => "did".append(line),
-            Outcome::Split {
-                page,
-                new_page,
-                boundary,
-            } => {
-                let split = SplitText {
-                    page,
-                    new_page,
-                    boundary,
-                };
-                split.append(line)
-            }
-            Outcome::Aborted(why) => joined!("aborted ", WhyText(why)).append(line),
-            Outcome::Committed(place) => joined!("committed ", Decimal(place)).append(line),
-            Outcome::Waits(page) => joined!("waits ", Decimal(page)).append(line),
-            Outcome::Pulls(page) => joined!("pulls ", Decimal(page)).append(line),
-            Outcome::Awaits(page) => joined!("awaits ", Decimal(page)).append(line),
-            Outcome::NoMessage => "nomessage".append(line),
-            Outcome::GotWire => "got wire".append(line),
-            Outcome::GotReady => "got ready".append(line),
-            Outcome::GotDual => "got dual".append(line),
-            Outcome::Stale(page) => joined!("stale ", Decimal(page)).append(line),
-            Outcome::Held(page) => joined!("held ", Decimal(page)).append(line),
-            Outcome::GotPull(page) => joined!("got pull ", Decimal(page)).append(line),
-            Outcome::GotPage(page) => joined!("got page ", Decimal(page)).append(line),
-            Outcome::GotFinish => "got finish".append(line),
-            Outcome::GotDone => "got done".append(line),
-            Outcome::Stray => "stray".append(line),
-            Outcome::Finishing => "finishing".append(line),
-            Outcome::Active(t) => joined!("active ", Decimal(t)).append(line),
-            Outcome::Pushed(page) => joined!("pushed ", Decimal(page)).append(line),
-            Outcome::NoPush => "nopush".append(line),
-        }
+        outcome_parts(self.0).append(line)
     }
 }
 
