@@ -100,15 +100,16 @@ fn allows_node(told: Option<Node>, came: Node) -> bool
 fn tells_reason(told: LoggedReason, why: Why) -> bool
     ensures { Decides result (TellsReason told why) }
 {
-    match told {
-        LoggedReason::Own => matches!(why, Why::Own),
-        LoggedReason::Killed => matches!(why, Why::Killed),
-        LoggedReason::BadKey => matches!(why, Why::BadKey),
-        LoggedReason::Missing => matches!(why, Why::Missing),
-        LoggedReason::Duplicate => matches!(why, Why::Duplicate),
-        LoggedReason::Frozen(page) => matches!(why, Why::Frozen(came) if allows(page, came)),
-        LoggedReason::NoPage => matches!(why, Why::NoPage),
-        LoggedReason::Gone(page) => matches!(why, Why::Gone(came) if allows(page, came)),
+    match (told, why) {
+        (LoggedReason::Own, Why::Own)
+        | (LoggedReason::Killed, Why::Killed)
+        | (LoggedReason::BadKey, Why::BadKey)
+        | (LoggedReason::Missing, Why::Missing)
+        | (LoggedReason::Duplicate, Why::Duplicate)
+        | (LoggedReason::NoPage, Why::NoPage) => true,
+        (LoggedReason::Frozen(page), Why::Frozen(came))
+        | (LoggedReason::Gone(page), Why::Gone(came)) => allows(page, came),
+        _ => false,
     }
 }
 
@@ -145,40 +146,42 @@ fn tells_split(
 pub(crate) fn tells(told: Told, outcome: Outcome) -> bool
     ensures { Decides result (Tells told outcome) }
 {
-    match told {
-        Told::Started => matches!(outcome, Outcome::Started),
-        Told::BadMode => matches!(outcome, Outcome::BadMode),
-        Told::Began(node) => matches!(outcome, Outcome::Began(came) if allows_node(node, came)),
-        Told::Idle => matches!(outcome, Outcome::Idle),
-        Told::Elsewhere => matches!(outcome, Outcome::Elsewhere),
-        Told::NotYet => matches!(outcome, Outcome::NotYet),
-        Told::Did => matches!(outcome, Outcome::Did),
-        Told::Split {
-            page,
-            new_page,
-            boundary,
-        } => tells_split(page, new_page, boundary, outcome),
-        Told::Aborted(reason) =>
-            matches!(outcome, Outcome::Aborted(why) if allows_reason(reason, why)),
-        Told::Committed(place) =>
-            matches!(outcome, Outcome::Committed(came) if allows_count(place, came)),
-        Told::Waits(page) => matches!(outcome, Outcome::Waits(came) if allows(page, came)),
-        Told::Pulls(page) => matches!(outcome, Outcome::Pulls(came) if allows(page, came)),
-        Told::Awaits(page) => matches!(outcome, Outcome::Awaits(came) if allows(page, came)),
-        Told::NoMessage => matches!(outcome, Outcome::NoMessage),
-        Told::GotWire => matches!(outcome, Outcome::GotWire),
-        Told::GotReady => matches!(outcome, Outcome::GotReady),
-        Told::GotDual => matches!(outcome, Outcome::GotDual),
-        Told::Stale(page) => matches!(outcome, Outcome::Stale(came) if allows(page, came)),
-        Told::Held(page) => matches!(outcome, Outcome::Held(came) if allows(page, came)),
-        Told::GotPull(page) => matches!(outcome, Outcome::GotPull(came) if allows(page, came)),
-        Told::GotPage(page) => matches!(outcome, Outcome::GotPage(came) if allows(page, came)),
-        Told::GotFinish => matches!(outcome, Outcome::GotFinish),
-        Told::GotDone => matches!(outcome, Outcome::GotDone),
-        Told::Stray => matches!(outcome, Outcome::Stray),
-        Told::Finishing => matches!(outcome, Outcome::Finishing),
-        Told::Active(txn) => matches!(outcome, Outcome::Active(came) if allows_count(txn, came)),
-        Told::Pushed(page) => matches!(outcome, Outcome::Pushed(came) if allows(page, came)),
-        Told::NoPush => matches!(outcome, Outcome::NoPush),
+    match (told, outcome) {
+        (Told::Started, Outcome::Started)
+        | (Told::BadMode, Outcome::BadMode)
+        | (Told::Idle, Outcome::Idle)
+        | (Told::Elsewhere, Outcome::Elsewhere)
+        | (Told::NotYet, Outcome::NotYet)
+        | (Told::Did, Outcome::Did)
+        | (Told::NoMessage, Outcome::NoMessage)
+        | (Told::GotWire, Outcome::GotWire)
+        | (Told::GotReady, Outcome::GotReady)
+        | (Told::GotDual, Outcome::GotDual)
+        | (Told::GotFinish, Outcome::GotFinish)
+        | (Told::GotDone, Outcome::GotDone)
+        | (Told::Stray, Outcome::Stray)
+        | (Told::Finishing, Outcome::Finishing)
+        | (Told::NoPush, Outcome::NoPush) => true,
+        (Told::Waits(page), Outcome::Waits(came))
+        | (Told::Pulls(page), Outcome::Pulls(came))
+        | (Told::Awaits(page), Outcome::Awaits(came))
+        | (Told::Stale(page), Outcome::Stale(came))
+        | (Told::Held(page), Outcome::Held(came))
+        | (Told::GotPull(page), Outcome::GotPull(came))
+        | (Told::GotPage(page), Outcome::GotPage(came))
+        | (Told::Pushed(page), Outcome::Pushed(came)) => allows(page, came),
+        (Told::Committed(count), Outcome::Committed(came))
+        | (Told::Active(count), Outcome::Active(came)) => allows_count(count, came),
+        (Told::Began(node), Outcome::Began(came)) => allows_node(node, came),
+        (Told::Aborted(reason), Outcome::Aborted(why)) => allows_reason(reason, why),
+        (
+            Told::Split {
+                page,
+                new_page,
+                boundary,
+            },
+            split,
+        ) => tells_split(page, new_page, boundary, split),
+        _ => false,
     }
 }
