@@ -6,5 +6,6 @@ pub mod Cursors
 pub mod Txns
 pub mod Vocabulary
 pub mod Parts
+pub mod Paged
 pub mod Lines
 pub mod Logs
