@@ -85,7 +85,7 @@ fn word_len(bytes: &[u8]) -> usize
 {
     let mut len = 0usize;
     let mut rest = bytes;
-    while let [first, more @ ..] = rest {
+    while let Some((first, more)) = rest.split_first() {
         len += 1;
         if !goes_on(*first, more) {
             return len;
