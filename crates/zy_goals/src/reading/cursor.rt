@@ -68,7 +68,7 @@ fn without_spaces(bytes: &[u8]) -> &[u8]
     ensures begins { spec.begins_with_space result.now ≡ false }
 {
     let mut rest = bytes;
-    while let [first, more @ ..] = rest {
+    while let Some((first, more)) = rest.split_first() {
         if !is_space(*first) {
             return rest;
         }

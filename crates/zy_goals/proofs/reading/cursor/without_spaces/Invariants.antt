@@ -3,8 +3,8 @@ use Rattle.std.proofs.Common.{◌≡◌, length}
 use Rattle.zy_goals.specs.Words.{words_of}
 use Rattle.zy_goals.proofs.reading.cursor.without_spaces.Given as goal
 
-abbrev pub invariant-loop-rest : goal.invariant-loop-rest
-invariant-loop-rest l = words_of l.rest ≡ words_of l.fn.bytes
+abbrev pub invariant-loop-first : goal.invariant-loop-first
+invariant-loop-first l = words_of l.rest ≡ words_of l.fn.bytes
 
-abbrev pub decreases-loop-rest : goal.decreases-loop-rest
-decreases-loop-rest l = length l.rest
+abbrev pub decreases-loop-first : goal.decreases-loop-first
+decreases-loop-first l = length l.rest
