@@ -11,12 +11,7 @@ use Rattle.zy_json.specs.declared.field.Member.{Member}
 use Rattle.zy_json.specs.declared.field.Member.TheVariants as field
 use Rattle.zy_json.specs.Fields.{key_of}
 use Rattle.zy_json.specs.Steps.{Step, actor_text}
-use Rattle.zy_json.specs.Written.{json_text, with_name, field_tokens, some_tokens}
-
--- all tokens of a step
-abbrev pub step_tokens : Step → List Token
-step_tokens s = token.begin_object ∷ (field_tokens field.Actor (actor_text s.actor) ++ (field_tokens field.Action s.action
-    ++ (some_tokens field.Came s.came ++ (some_tokens field.Sent s.sent ++ token.end_object ∷ []))))
+use Rattle.zy_json.specs.Written.{json_text, with_name, field_tokens, some_tokens, step_tokens}
 
 -- a member with the text, if there is one
 abbrev pub some_member : Member → Option (List ℕ) → Members → Members
@@ -28,9 +23,9 @@ members_of s = member (key_of field.Actor) (string (actor_text s.actor)) (member
     (some_member field.Came s.came (some_member field.Sent s.sent no_members)))
 
 -- parts that are put down one after the other
-pub gathered : (o a b c d z t0 t1 t2 t3 t4 t5 : List Token) → t0 ≡ o → t1 ≡ t0 ++ a → t2 ≡ t1 ++ b → t3 ≡ t2 ++ c → t4 ≡ t3 ++ d
-    → t5 ≡ t4 ++ z → t5 ≡ o ++ (a ++ (b ++ (c ++ (d ++ z))))
-gathered o a b c d z t0 t1 t2 t3 t4 t5 e0 e1 e2 e3 e4 e5 = rw (e5, e4, e3, e2, e1, e0) (simp append_assoc)
+pub gathered : (p o a b c d z t0 t1 t2 t3 t4 t5 : List Token) → t0 ≡ p ++ o → t1 ≡ t0 ++ a → t2 ≡ t1 ++ b → t3 ≡ t2 ++ c → t4 ≡ t3 ++ d
+    → t5 ≡ t4 ++ z → t5 ≡ p ++ (o ++ (a ++ (b ++ (c ++ (d ++ z)))))
+gathered p o a b c d z t0 t1 t2 t3 t4 t5 e0 e1 e2 e3 e4 e5 = rw (e5, e4, e3, e2, e1, e0) (simp append_assoc)
 
 -- the tokens' text, by the texts that are there
 printed : (who what : List ℕ) (came sent : Option (List ℕ))

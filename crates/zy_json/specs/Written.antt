@@ -8,6 +8,7 @@ use Rattle.json.specs.Written as writer
 use Rattle.zy_json.specs.declared.faults.JsonFault.{JsonFault}
 use Rattle.zy_json.specs.declared.faults.JsonFault.TheVariants.{Memory}
 use Rattle.zy_json.specs.declared.field.Member.{Member}
+use Rattle.zy_json.specs.declared.field.Member.TheVariants as field
 use Rattle.zy_json.specs.declared.step.JsonStep.{JsonStep}
 use Rattle.zy_json.specs.Fields.{key_of}
 use Rattle.zy_json.specs.Steps.{Step, actor_text, step_of}
@@ -46,6 +47,11 @@ field_tokens f text = token.key (key_of f) ∷ token.string text ∷ []
 abbrev pub some_tokens : Member → Option (List ℕ) → List Token
 some_tokens f None = []
 some_tokens f (Some text) = field_tokens f text
+
+-- all tokens of a step
+abbrev pub step_tokens : Step → List Token
+step_tokens s = token.begin_object ∷ (field_tokens field.Actor (actor_text s.actor) ++ (field_tokens field.Action s.action
+    ++ (some_tokens field.Came s.came ++ (some_tokens field.Sent s.sent ++ token.end_object ∷ []))))
 
 -- these tokens come behind those that were written
 abbrev pub Puts : writer.Written → writer.Written → List Token → Type 0
