@@ -132,11 +132,19 @@ impl Packed for Txn {
         put_number(status_code(self.status()), out)?;
         status_page(self.status()).put(out)?;
         put_number(node_code(self.node()), out)?;
-        self.pc().put(out)?;
-        put_items(self.regs(), out)?;
-        put_items(self.rows(), out)?;
-        self.done().put(out)
+        put_progress(self, out)
     }
+}
+
+/// Puts how far a transaction is: its place, registers and private rows, and how much it has done.
+fn put_progress(txn: &Txn, out: &mut Vec<u8>) -> Result<(), AllocError>
+    ensures { OnOk result (out.new.items ≡ out.old.items ++ (spec.number txn.now.pc
+        ++ (spec.numbers txn.now.regs ++ (spec.items spec.row txn.now.rows ++ spec.number txn.now.done)))) }
+{
+    txn.pc().put(out)?;
+    put_items(txn.regs(), out)?;
+    put_items(txn.rows(), out)?;
+    txn.done().put(out)
 }
 
 /// Puts a message with nothing but its number, and that of the page that it asks for, or 0.

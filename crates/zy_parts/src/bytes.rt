@@ -8,7 +8,7 @@ ghost use Rattle.zy_table.specs.Change.{nobody};
 ghost use Rattle.zy_table.specs.State.{facing};
 
 use std::alloc::{AllocError, Global};
-use zy_isa::Node;
+use zy_isa::{Node, Row};
 use zy_machine::{Machine, StatePart};
 use zy_node::OwnedPages;
 use zy_pack::codes::{mode_code, status_code, status_page};
@@ -86,9 +86,17 @@ fn put_status_and_rows(txn: &Txn, out: &mut Vec<u8>) -> Result<(), AllocError>
     put_number(status_code(txn.status()), out)?;
     status_page(txn.status()).put(out)?;
     put_number(0, out)?;
+    put_first_progress(txn.rows(), out)
+}
+
+/// Puts how far a transaction is that has not begun, but with these private rows.
+fn put_first_progress(rows: &[Row], out: &mut Vec<u8>) -> Result<(), AllocError>
+    ensures { OnOk result (out.new.items ≡ out.old.items ++ (spec.number 0
+        ++ (spec.numbers nobody.regs ++ (spec.items spec.row rows.now ++ spec.number 0)))) }
+{
     put_number(0, out)?;
     put_items(&[0_u32; 8], out)?;
-    put_items(txn.rows(), out)?;
+    put_items(rows, out)?;
     put_number(0, out)
 }
 
