@@ -1,5 +1,6 @@
 //! The search.
 ghost use Rattle.std.specs.Prelude.{◌≡◌, ◌≤◌, ◌<◌, ◌+◌, [], ◌∷◌, IfOk, true, length};
+ghost use Rattle.zy_search.specs.Ahead.{IsOutlook};
 ghost use Rattle.zy_search.specs.Choices as spec;
 ghost use Rattle.zy_search.specs.Searches.{IsAnswer, IsReached, IsDue};
 ghost use Rattle.zy_search.specs.Visits.{length_at, AreExpanded, AreOf, Begins, IsEdge, IsInformed, IsWhole, Visits};
@@ -58,6 +59,37 @@ fn report_to<W: Watch>(watch: &mut W, tree: &ChoiceTree, at: u32)
     }
 }
 
+/// Expands each path in turn, those that are added on the way too, by an outlook that grows with them.
+fn expand_each<R: Threads + Sync, W: Watch>(
+    rt: &R,
+    plan: &Plan,
+    reached: &mut Reached,
+    outlook: &mut Outlook,
+    numbers: &mut TurnNumbers,
+    scratch: &mut Scratch,
+    watch: &mut W,
+) -> Result<SearchAnswer, Fault>
+    requires begins { Begins plan.now reached.old }
+    requires outlook { IsOutlook plan.now reached.old outlook.old }
+    requires scratch { AreOf plan.now.start.scenario scratch.old }
+    ensures answer { IfOk result (IsReached plan.now.start plan.now.sought) }
+    ensures due { IfOk result (IsDue plan.now.start plan.now.sought plan.now.most) }
+{
+    for at in 0..u32::MAX {
+        if reached.tree.len() <= at as usize {
+            return Ok(SearchAnswer::Nowhere);
+        }
+        report_to(watch, &reached.tree, at);
+        outlook.go_to(rt, plan, reached, at)?;
+        match expand(plan, reached, at, &mut outlook.ahead, scratch, numbers)? {
+            Expanded::Whole => {}
+            Expanded::Found(path) => return Ok(SearchAnswer::Found(path)),
+            Expanded::Spent => return Ok(spent_at(&reached.tree, at)),
+        }
+    }
+    Ok(settle(plan, &reached.tree, u32::MAX))
+}
+
 /// Expands each path in turn, those that are added on the way too.
 fn expand_all<R: Threads + Sync, W: Watch>(
     rt: &R,
@@ -73,19 +105,17 @@ fn expand_all<R: Threads + Sync, W: Watch>(
 {
     let mut numbers = TurnNumbers::new(plan.alloc);
     let mut outlook = Outlook::new(plan.alloc);
-    for at in 0..u32::MAX {
-        if reached.tree.len() <= at as usize {
-            return Ok(SearchAnswer::Nowhere);
-        }
-        report_to(watch, &reached.tree, at);
-        outlook.go_to(rt, plan, reached, at)?;
-        match expand(plan, reached, at, &mut outlook.ahead, scratch, &mut numbers)? {
-            Expanded::Whole => {}
-            Expanded::Found(path) => return Ok(SearchAnswer::Found(path)),
-            Expanded::Spent => return Ok(spent_at(&reached.tree, at)),
-        }
-    }
-    Ok(settle(plan, &reached.tree, u32::MAX))
+    let answer = expand_each(
+        rt,
+        plan,
+        reached,
+        &mut outlook,
+        &mut numbers,
+        scratch,
+        watch,
+    );
+    drop(outlook);
+    answer
 }
 
 /// How many states an answer adds to the visited ones: the state that was found, unless it is that of the start.

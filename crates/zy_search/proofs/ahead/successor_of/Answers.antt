@@ -1,4 +1,5 @@
-use Rattle.std.proofs.Common.{◌∙◌, sym}
+use Rattle.std.proofs.Common.{◌∙◌, arith, sym}
+use Rattle.std.proofs.lemmas.Grind.{common_steps}
 use Rattle.zy_search.specs.Visits.{states_of, state_by}
 use Rattle.zy_search.proofs.AheadLemmas.{still_known}
 use Rattle.zy_search.proofs.ReachedLemmas.{known_by}
@@ -25,3 +26,6 @@ returns-in-Some-find-clause-successor c =
     let numbers = leads.numbers (sym c.is_still.ensures ∙ c.if-is_still.false) in
     known_by p x c.requires.informed c.in-Some-find.field-0 to (c.in-Some-find.ensures.there sc states knows)
     (λ s at. c.in-Some-find.ensures.alike sc states s to knows at (rw c.deref-2.ensures.value numbers))
+
+pub returns-clause-successor : goal.returns-clause-successor
+returns-clause-successor c = grind (arith, common_steps)

@@ -1,7 +1,7 @@
 use Rattle.std.proofs.Common.{◌<◌, ◌≤◌, length}
 use Rattle.zy_search.specs.Visits.{Visits, IsEdge, AreEnds, AreExpanded, AreOf, IsInformed}
 use Rattle.zy_search.specs.Ahead.{IsOutlook}
-use Rattle.zy_search.proofs.search.expand_all.Given as goal
+use Rattle.zy_search.proofs.search.expand_each.Given as goal
 
 abbrev pub invariant-loop-at : goal.invariant-loop-at
 invariant-loop-at g l =
