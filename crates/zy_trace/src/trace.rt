@@ -13,7 +13,7 @@ ghost use Rattle.zy_trace.specs.Steps.{end_text, next_lines, ran, with_next};
 use crate::form::StepForm;
 use crate::since::{Marks, Since, Texts, append_since};
 use crate::step::{Buffers, trace_step};
-use std::alloc::Global;
+use std::alloc::{AllocError, Global};
 use zy_disasm::ScenarioHead;
 use zy_io::writing::write_all;
 use zy_io::{AllLines, LineBuffer, One, Section, Sink, TextFault, sections};
@@ -22,6 +22,25 @@ use zy_listing::serial::same;
 use zy_listing::{FinalState, SerialLine};
 use zy_machine::Machine;
 use zy_text::Each;
+
+/// Appends the lines of a machine's state.
+fn append_state(alloc: Global, machine: &Machine, line: &mut LineBuffer) -> Result<(), AllocError>
+    ensures { OnOk result (line.new ≡ line.old ++ flat_map line_of (map inset (state_lines machine.now.state))) }
+{
+    let since = Since {
+        before: machine,
+        after: machine,
+        all: true,
+        marks: Marks {
+            before: "  ",
+            behind: "\n",
+        },
+    };
+    let mut texts = Texts::new(alloc);
+    let appended = append_since(&since, &mut texts, line);
+    drop(texts);
+    appended
+}
 
 /// The lines of a machine's state.
 #[derive(Clone, Copy)]
@@ -34,18 +53,8 @@ impl Section for StateLines<'_> {
     ghost texts = { λ s. map inset (state_lines s.machine.now.state) };
 
     fn write<K: Sink>(&self, sink: &mut K, line: &mut LineBuffer) -> Result<(), TextFault> {
-        let mut texts = Texts::new(self.alloc);
-        let since = Since {
-            before: self.machine,
-            after: self.machine,
-            all: true,
-            marks: Marks {
-                before: "  ",
-                behind: "\n",
-            },
-        };
         line.clear();
-        append_since(&since, &mut texts, line)?;
+        append_state(self.alloc, self.machine, line)?;
         write_all(sink, line.as_bytes())?;
         Ok(())
     }
@@ -100,9 +109,9 @@ fn write_step<K: Sink>(
 /// Makes the choices of a scenario on two machines that have made none, and writes the lines of each step.
 fn write_steps<K: Sink>(
     form: StepForm,
-    alloc: Global,
     before: &mut Machine,
     now: &mut Machine,
+    buffers: &mut Buffers,
     sink: &mut K,
     line: &mut LineBuffer,
 ) -> Result<(), TextFault>
@@ -113,9 +122,8 @@ fn write_steps<K: Sink>(
         (flat_map line_of (steps_lines form now.old.scenario 1 (opening now.old.scenario) now.old.scenario.choices)) }
     ensures made { OnOk result (now.new ≡ ran now.old.scenario now.old.scenario.choices) }
 {
-    let mut buffers = Buffers::new(alloc);
     for _ in 0..now.scenario().choices().len() {
-        write_step(form, before, now, &mut buffers, sink, line)?;
+        write_step(form, before, now, buffers, sink, line)?;
     }
     Ok(())
 }
@@ -137,7 +145,9 @@ fn write_all_steps<K: Sink>(
     ensures made { OnOk result (machine.new ≡ ran machine.old.scenario machine.old.scenario.choices) }
 {
     let mut before = machine.reopen(alloc)?;
-    let outcome = write_steps(form, alloc, &mut before, machine, sink, line);
+    let mut buffers = Buffers::new(alloc);
+    let outcome = write_steps(form, &mut before, machine, &mut buffers, sink, line);
+    drop(buffers);
     before.discard();
     outcome
 }
@@ -232,7 +242,9 @@ pub fn write_objects<K: Sink>(
 {
     let mut machine = Machine::open(alloc, scenario)?;
     let mut line = LineBuffer::new(alloc);
-    match write_all_steps(StepForm::Object, alloc, &mut machine, sink, &mut line) {
+    let written = write_all_steps(StepForm::Object, alloc, &mut machine, sink, &mut line);
+    drop(line);
+    match written {
         Ok(()) => Ok(machine),
         Err(fault) => {
             machine.discard();

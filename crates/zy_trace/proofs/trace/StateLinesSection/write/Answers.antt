@@ -7,11 +7,10 @@ use Rattle.zy_io.specs.Streams.{WrotePrefix}
 use Rattle.zy_io.proofs.StreamLemmas.{WrotePrefix-none}
 use Rattle.zy_io.specs.Writing.{line_of}
 use Rattle.zy_trace.specs.Subjects.{inset, state_lines}
-use Rattle.zy_trace.proofs.TraceLemmas.{shown_state, state_text}
 use Rattle.zy_trace.proofs.trace.StateLinesSection.write.Goals as goal
 
-pub returns-in_err-append_since : goal.returns-in_err-append_since
-returns-in_err-append_since g c =
+pub returns-in_err-append_state : goal.returns-in_err-append_state
+returns-in_err-append_state g c =
     let p = err_from_is_err_and c.from_residual.result c.from_residual.ensures.1 in
     rw (p.1, p.2) (WrotePrefix-none (g.K.Sink.written c.args.sink.now) _, refl)
 
@@ -20,7 +19,7 @@ returns-in_err-write_all g c =
     let s = c.args.self.now.machine.now.state in
     let p = err_from_is_err_and c.from_residual-in_err-write_all.result c.from_residual-in_err-write_all.ensures.1 in
     let text : c.as_bytes.result.now ≡ flat_map line_of (map inset (state_lines s)) =
-    c.as_bytes.ensures.value ∙ (c.in_ok-append_since.ensures ∙ (ap (λ l. l ++ shown_state s) c.clear.ensures ∙ state_text s)) in
+    c.as_bytes.ensures.value ∙ (c.in_ok-append_state.ensures ∙ ap (λ l. l ++ flat_map line_of (map inset (state_lines s))) c.clear.ensures) in
     rw (p.1, p.2) (
       subst (WrotePrefix (g.K.Sink.written c.args.sink.now) (g.K.Sink.written c.write_all.new.sink)) text c.in_err-write_all.ensures.0,
       c.in_err-write_all.ensures.1,
@@ -30,5 +29,5 @@ pub returns : goal.returns
 returns g c =
     let s = c.args.self.now.machine.now.state in
     let text : c.as_bytes.result.now ≡ flat_map line_of (map inset (state_lines s)) =
-    c.as_bytes.ensures.value ∙ (c.in_ok-append_since.ensures ∙ (ap (λ l. l ++ shown_state s) c.clear.ensures ∙ state_text s)) in
+    c.as_bytes.ensures.value ∙ (c.in_ok-append_state.ensures ∙ ap (λ l. l ++ flat_map line_of (map inset (state_lines s))) c.clear.ensures) in
     (subst (Appends (g.K.Sink.written c.args.sink.now) (g.K.Sink.written c.write_all.new.sink)) text c.in_ok-write_all.ensures.0, c.in_ok-write_all.ensures.1)
