@@ -57,17 +57,24 @@ impl Logs {
         Ok(Logs { c, a, b, gaps })
     }
 
+    /// The lines of an actor.
+    fn of(&self, actor: Actor) -> &[LogLine]
+        ensures { result.now ≡ log_of actor self.entry.now }
+    {
+        match actor {
+            Actor::C => self.c.as_slice(),
+            Actor::A => self.a.as_slice(),
+            Actor::B => self.b.as_slice(),
+        }
+    }
+
     /// The next line of an actor, if one is left.
     pub(crate) fn next(&self, cursors: Cursors, actor: Actor) -> Option<LogLine>
         ensures { MatchOption result (length (log_of actor self.now) ≤ cursor actor cursors)
             (λ line. slice_get (log_of actor self.now) (cursor actor cursors) ≡ Some line) }
     {
         let at = usize::from(cursors.of(actor).lines);
-        match actor {
-            Actor::C => self.c.get(at).copied(),
-            Actor::A => self.a.get(at).copied(),
-            Actor::B => self.b.get(at).copied(),
-        }
+        self.of(actor).get(at).copied()
     }
 
     /// How many steps may be missing where an actor is in its log.

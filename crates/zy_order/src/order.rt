@@ -149,6 +149,18 @@ fn all_choices(alloc: Global, start: &Machine) -> Result<Vec<Choice>, AllocError
     considered(alloc, all_kinds(), programs.len() as u8)
 }
 
+/// All choices of a machine's scenario, and a copy of the machine whose history is shared by its copies.
+fn start_from(alloc: Global, start: &Machine) -> Result<(Vec<Choice>, Machine), Fault>
+    ensures choices { IfOk result (λ r. r.0.items
+        ≡ considered spec.all_kinds (length start.now.scenario.programs)) }
+    ensures start { IfOk result (λ r. r.1 ≡ start.now) }
+    ensures replay { IsReplay start.now }
+{
+    let choices = all_choices(alloc, start)?;
+    let start = start.copy(alloc)?.share(alloc)?;
+    Ok((choices, start))
+}
+
 /// What a search goes by.
 fn plan_from(
     alloc: Global,
@@ -163,15 +175,19 @@ fn plan_from(
     ensures logs { IfOk result (λ p. AreLogs lines.now gaps p.logs) }
 {
     let logs = Logs::split(alloc, lines, gaps)?;
-    let choices = all_choices(alloc, start)?;
-    let start = start.copy(alloc)?.share(alloc)?;
-    Ok(Plan {
-        alloc,
-        start,
-        logs,
-        choices,
-        most,
-    })
+    match start_from(alloc, start) {
+        Ok((choices, start)) => Ok(Plan {
+            alloc,
+            start,
+            logs,
+            choices,
+            most,
+        }),
+        Err(fault) => {
+            drop(logs);
+            Err(fault)
+        }
+    }
 }
 
 /// Looks for an order of the lines of three logs, one for each actor, and of steps that are missing from the logs, in

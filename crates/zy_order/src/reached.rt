@@ -28,16 +28,29 @@ impl Reached {
         ensures cursors { IfOk result (λ r. r.cursors.items ≡ at_start ∷ []) }
         ensures todo { IfOk result (λ r. r.todo.items ≡ 0 ∷ []) }
     {
-        let visited = Visited::new(alloc, digest)?;
-        let mut cursors = Vec::new(alloc);
-        cursors.push(Cursors::at_start())?;
-        let mut todo = Vec::new(alloc);
-        todo.push(0)?;
-        Ok(Reached {
-            visited,
-            cursors,
-            todo,
-        })
+        let mut reached = Reached {
+            visited: Visited::new(alloc, digest)?,
+            cursors: Vec::new(alloc),
+            todo: Vec::new(alloc),
+        };
+        match reached.begin() {
+            Ok(()) => Ok(reached),
+            Err(fault) => {
+                drop(reached);
+                Err(fault)
+            }
+        }
+    }
+
+    /// Adds the cursors where the empty path leads, and that it is to be followed.
+    fn begin(&mut self) -> Result<(), AllocError>
+        ensures paths { self.new.visited ≡ self.old.visited }
+        ensures cursors { OnOk result (self.new.cursors.items ≡ self.old.cursors.items ++ at_start ∷ []) }
+        ensures todo { OnOk result (self.new.todo.items ≡ self.old.todo.items ++ 0 ∷ []) }
+    {
+        self.cursors.push(Cursors::at_start())?;
+        self.todo.push(0)?;
+        Ok(())
     }
 
     /// The cursors where the path at a place leads.

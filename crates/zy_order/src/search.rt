@@ -1,5 +1,5 @@
 //! What a search holds.
-ghost use Rattle.std.specs.Prelude.{IfOk};
+ghost use Rattle.std.specs.Prelude.{◌≡◌, [], IfOk};
 ghost use Rattle.zy_order.specs.Reaches.{Follows, IsPlan};
 
 use crate::cursors::Cursors;
@@ -35,6 +35,22 @@ pub(crate) struct Position<'a> {
     pub machine: &'a Machine,
 }
 
+/// The scratch machine of a search by a plan, and a shelf with no machine but its own.
+fn machines_of(plan: &Plan) -> Result<(Machine, Shelf), Fault>
+    ensures twin { IfOk result (λ r. r.0 ≡ plan.now.start) }
+    ensures spots { IfOk result (λ r. r.1.spots.items ≡ []) }
+    ensures spare { IfOk result (λ r. r.1.spare ≡ plan.now.start) }
+{
+    let twin = plan.start.copy(plan.alloc)?;
+    match Shelf::sized(plan.alloc, &plan.start, MOST_SPOTS, MAX_CHOICES) {
+        Ok(shelf) => Ok((twin, shelf)),
+        Err(fault) => {
+            twin.discard();
+            Err(fault)
+        }
+    }
+}
+
 impl Search {
     /// Nothing is reached but the state of the start, and it is to be followed.
     pub(crate) fn new(plan: &Plan) -> Result<Search, Fault>
@@ -43,15 +59,14 @@ impl Search {
     {
         let digest = digest_of(Cursors::at_start(), &plan.start);
         let reached = Reached::new(plan.alloc, digest)?;
-        let twin = plan.start.copy(plan.alloc)?;
-        match Shelf::sized(plan.alloc, &plan.start, MOST_SPOTS, MAX_CHOICES) {
-            Ok(shelf) => Ok(Search {
+        match machines_of(plan) {
+            Ok((twin, shelf)) => Ok(Search {
                 reached,
                 shelf,
                 twin,
             }),
             Err(fault) => {
-                twin.discard();
+                drop(reached);
                 Err(fault)
             }
         }

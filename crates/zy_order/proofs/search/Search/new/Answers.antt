@@ -5,6 +5,6 @@ use Rattle.zy_order.proofs.search.Search.new.Goals as goal
 pub returns-in-Ok : goal.returns-in-Ok
 returns-in-Ok c =
     let r = c.in_ok-reached.ensures in
-    let shelf = c.in-Ok.ensures in
-    begins c.args.plan.now (record { reached = c.in_ok-reached.reached; shelf = c.in-Ok.shelf; twin = c.in_ok-twin.twin }) c.requires r.paths r.cursors
-    r.todo shelf.spots shelf.spare c.in_ok-twin.ensures
+    let made = c.in-Ok.ensures in
+    begins c.args.plan.now (record { reached = c.in_ok-reached.reached; shelf = c.in-Ok.shelf; twin = c.in-Ok.twin }) c.requires r.paths r.cursors
+    r.todo made.spots made.spare made.twin
