@@ -1,5 +1,7 @@
 //! The steps of a run as objects of JSON, each of which is a line of a log.
 ghost use Rattle.std.specs.Prelude.{◌<◌, map};
+ghost use Rattle.std.specs.List.{flat_map};
+ghost use Rattle.zy_io.specs.Writing.{line_of, Wrote};
 ghost use Rattle.zy_engine.specs.Outputs.{WroteRun};
 ghost use Rattle.zy_engine.specs.StepObjects.{objects_text};
 ghost use Rattle.zy_trace.specs.Objects.{object_text};
@@ -27,6 +29,18 @@ impl Lines for StepObjects<'_> {
     }
 }
 
+/// Writes the object of each step.
+fn write_entries<K: Sink>(alloc: Global, entries: &[Entry], sink: &mut K) -> Result<(), TextFault>
+    requires { K.failures sink.old < u64.MAX }
+    ensures { Wrote (K.written sink.old) (K.written sink.new) (K.failures sink.old) (K.failures sink.new) result
+        (flat_map line_of (map object_text entries.now)) }
+{
+    let mut line = LineBuffer::new(alloc);
+    let written = AllLines(StepObjects(entries)).write(sink, &mut line);
+    drop(line);
+    written
+}
+
 /// Makes the choices of a scenario, and writes the object of each step. It gives the machine that has made them.
 pub(crate) fn write_objects<K: Sink>(
     alloc: Global,
@@ -38,8 +52,7 @@ pub(crate) fn write_objects<K: Sink>(
         (K.failures sink.new) result }
 {
     let machine = Machine::run_all(alloc, scenario)?;
-    let mut line = LineBuffer::new(alloc);
-    match AllLines(StepObjects(machine.entries())).write(sink, &mut line) {
+    match write_entries(alloc, machine.entries(), sink) {
         Ok(()) => Ok(machine),
         Err(fault) => {
             machine.discard();
