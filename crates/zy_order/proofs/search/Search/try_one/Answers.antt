@@ -1,10 +1,14 @@
 -- The choice changes nothing, or where it leads is known; or it may not be that of a missing step.
-use Rattle.std.proofs.Common.{◌≡◌, ◌∙◌, Bool, true, ap, subst, inr}
+use Rattle.std.proofs.Common.{◌≡◌, ◌∙◌, Bool, true, ap, subst, sym, inr}
 use Rattle.zy_isa.specs.declared.node.Actor.{Actor}
 use Rattle.zy_isa.specs.Choices.{actor_of}
+use Rattle.zy_isa.specs.Scenario.{Scenario}
+use Rattle.zy_table.specs.Play.{step}
+use Rattle.zy_table.specs.State.{State}
 use Rattle.zy_order.specs.Ways.{with_missing, HasGap}
-use Rattle.zy_order.specs.Reaches.{state_by, IsKnown, IsTried, Adds}
+use Rattle.zy_order.specs.Reaches.{cursors_at, state_by, IsKnown, IsTried, Adds}
 use Rattle.zy_order.proofs.LoopLemmas.{if_ok, missing_few, tried_by}
+use Rattle.zy_order.proofs.NeedLemmas.{need_missing}
 use Rattle.zy_order.proofs.PushLemmas.{adds_then, adds_twin, goes_on}
 use Rattle.zy_order.proofs.search.Search.try_one.Goals as goal
 
@@ -17,6 +21,19 @@ pub returns-then-is_alike-clause-adds : goal.returns-then-is_alike-clause-adds
 returns-then-is_alike-clause-adds c =
     let at = c.requires.at in
     adds_twin c.args.here.plan.now c.args.self.now c.attempt.new.twin at.search (c.in_ok-attempt.ensures.scenario ∙ at.machine.scenario)
+
+pub returns-then-is_alike-clause-tried : goal.returns-then-is_alike-clause-tried
+returns-then-is_alike-clause-tried c = λ _ gap.
+    let h = c.args.here.plan.now.start in
+    let here = c.args.here.machine.now in
+    let r = c.args.self.now.reached in
+    let i = c.args.here.at in
+    let choice = c.args.choice in
+    let machine = c.requires.at.machine in
+    let unchanged = c.is_alike.ensures c.if-is_alike.true in
+    let made = c.in_ok-attempt.ensures.state ∙ (ap (λ (sc : Scenario). (step sc choice here.state).after) machine.scenario
+    ∙ ap (λ (s : State). (step h.scenario choice s).after) machine.state) in
+    (i, c.requires.at.there, need_missing (actor_of choice) (cursors_at r i), sym machine.state ∙ (sym unchanged ∙ made))
 
 pub note-requires : goal.note-requires
 note-requires c =
