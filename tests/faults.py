@@ -376,6 +376,7 @@ SCRIPT_FAULTS = [
     script('build: a source that cannot be read is overlooked', 'zy_bench', 'if ! sum=$(sum_of "$1"); then', 'if ! sum=$(sum_of "$1"); then\n      return', 'build'),
     script('build: any program is that of the sources', 'zy_bench', 'note_of() { echo "$2" && sha256sum < "$(program_of "$1")"; }', 'note_of() { echo "$2"; }', 'build'),
     script('build: the time of the program is not looked at', 'zy_bench', '  (cd "$top" && find "crates/$1/out/$1" -printf "$what")\n', '', 'build'),
+    script('tests: -h is no word for help', 'tests/helping.py', "if {'--help', '-h'} & set(sys.argv[1:]):", "if '--help' in sys.argv[1:]:", 'build'),
     script('build: names in the order of a language', 'zy_bench', '| LC_ALL=C sort -z |', '| sort -z |', 'build'),
     script('unproved: a file is looked for elsewhere', 'zy_bench', 'exec rt try "${files[@]}" -- "$@"', 'exec rt try -- "$@"', 'build'),
     script('unproved: any file is taken', 'zy_bench', 'if [[ -f $word && ($word == /* || /$word/ == */../*) ]]; then', 'if false; then', 'build'),
