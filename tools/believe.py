@@ -34,7 +34,7 @@ PARTS = [
      ['zy_engine/src/searching.rt', 'zy_engine/src/finding.rt', 'zy_goals/src/reading.rt', 'zy_search/src/search.rt', 'zy_search/src/laws.rt']),
     ('Logs', 'What lines of logs say, which order fits them, and what `order` does.', [],
      ['zy_logs/src/logs.rt', 'zy_logs/src/log_line.rt', 'zy_logs/src/laws.rt', 'zy_order/src/order.rt', 'zy_ordering/src/ordering.rt',
-      'zy_ordering/src/behind.rt', 'zy_ordering/src/laws.rt']),
+      'zy_ordering/src/behind.rt', 'zy_ordering/src/laws.rt', 'zy_json/src/laws.rt']),
 ]
 
 HEAD = '''# What must be believed
@@ -42,8 +42,8 @@ HEAD = '''# What must be believed
 The prover checks that the code meets its contracts. Whether a contract says what you want is for you to judge. Contracts use the definitions in `specs/` and
 the types of the code. This page lists those that the contracts of the commands and the laws use, directly or through others, each file after those that it
 uses; a file has a row in each part that adds definitions of it, and *New* counts their lines. What is in `specs/` and not listed here is there for proofs, or
-for contracts between crates, of which the promises name some. Of the standard library's definitions they use those of numbers, lists, options, results, maps
-and streams.
+for contracts between crates, of which the promises name some. Of the standard library's definitions they use those of numbers, lists, options, results, maps,
+strings, memory and streams, and for `order --json` those of JSON in the library `json`.
 
 For the first theorem of the README read the first two parts: it is the contract of `run_all` in
 [`zy_machine`](../crates/zy_machine/src/machine.rt), and the laws `source_first`, `real_time`, `one_owner` and `serializable` in
