@@ -6,7 +6,7 @@ use crate::shown::WordStart;
 use std::fmt;
 use zy_isa::ProgramFault;
 
-/// Why a line is refused. Of several reasons the first is reported, in the order in which the line is judged.
+/// Why a line is rejected. Of several reasons the first is reported, in the order in which the line is judged.
 #[derive(Clone, Copy, Debug)]
 pub enum AsmKind {
     /// This is not the statement of the header that belongs here.
@@ -31,7 +31,7 @@ pub enum AsmKind {
     Memory,
 }
 
-/// The first faulty line, from 1, and why it is refused.
+/// The first faulty line, from 1, and why it is rejected.
 #[derive(Clone, Copy)]
 pub struct AsmFault {
     pub line: usize,

@@ -29,7 +29,7 @@ pub struct Advised<'a> {
 }
 
 impl<'a> Advised<'a> {
-    /// Why a command refuses what it has read.
+    /// Why a command rejects what it has read.
     pub fn of(reading: InputRead<'a>, fault: BenchFault) -> Advised<'a> {
         Advised { reading, fault }
     }

@@ -62,7 +62,7 @@ pub enum Asked {
     Positions,
 }
 
-/// Reads a goal, answers what is asked, and gives the exit status. Where the goal is refused, nothing is read, but for the
+/// Reads a goal, answers what is asked, and gives the exit status. Where the goal is rejected, nothing is read, but for the
 /// names of transactions, which the scenario has.
 pub fn answer<R: Eprint + AllocGlobal + Clock + Threads + Sync, G: Read, W: Write>(
     rt: &R,

@@ -1,4 +1,4 @@
-//! Why the text of a goal is refused.
+//! Why the text of a goal is rejected.
 
 use crate::command_line::request::Quest;
 use std::fmt;
@@ -6,7 +6,7 @@ use zy_diagnostics::line::SourceWord;
 use zy_diagnostics::place::MarkedWord;
 use zy_goals::WordFault;
 
-/// A goal that is refused, and the word that does not fit.
+/// A goal that is rejected, and the word that does not fit.
 #[derive(Clone, Copy)]
 pub struct Marked<'a> {
     quest: Quest<'a>,

@@ -1,4 +1,4 @@
-//! Why a line of a log is refused.
+//! Why a line of a log is rejected.
 
 use crate::origin::Origin;
 use std::fmt;
@@ -6,7 +6,7 @@ use zy_diagnostics::line::{SourceLine, SourceWord, Statement};
 use zy_diagnostics::place::MarkedWord;
 use zy_logs::LogLineFault;
 
-/// A line of a log that is refused, and the word that does not fit.
+/// A line of a log that is rejected, and the word that does not fit.
 #[derive(Clone, Copy)]
 pub struct RefusedLine<'a> {
     file: Option<&'a str>,

@@ -1,4 +1,4 @@
-//! Why an object is refused that is to tell a line of a log.
+//! Why an object is rejected that is to tell a line of a log.
 
 use crate::excerpt::Excerpt;
 use crate::origin::Origin;
@@ -73,7 +73,7 @@ impl ToldLine {
     }
 }
 
-/// A line of a log that an object tells and that is refused, and the word that does not fit.
+/// A line of a log that an object tells and that is rejected, and the word that does not fit.
 #[derive(Clone, Copy)]
 pub struct RefusedTold<'a> {
     file: Option<&'a str>,

@@ -19,7 +19,7 @@ module _ (s t u : Session) (out more : List ℕ) where
   same : (v : Session) (text : List ℕ) → (t ≡ v) × (out ≡ text) → (u ≡ v) × (more ≡ text) → (t ≡ u) × (out ≡ more)
   same v text h k = (h.0 ∙ sym k.0, h.1 ∙ sym k.1)
 
-  -- a command that is refused, or done
+  -- a command that is rejected, or done
   obeyed_once : (o : Option DebugFault) (c : Command) → Obeyed o s c t out → Obeyed o s c u more → (t ≡ u) × (out ≡ more)
   obeyed_once (Some f) c h k = same s (refusal_text f) h k
   obeyed_once None c (r, h, is) (q, k, too) = let e = does_once s t u r q c h k in (e.0, is ∙ ap₂ reply_text e.0 e.1 ∙ sym too)
@@ -44,7 +44,7 @@ says_once s (l ∷ ls) t u out more (v, first, rest, here, below, is) (w, head, 
 
 -- ---- one at least
 
--- a command that is refused, or done
+-- a command that is rejected, or done
 obeyed_some : (o : Option DebugFault) (s : Session) (c : Command) → (o ≡ None → IsDone s c) → (t : Session) × (out : List ℕ) × Obeyed o s c t out
 obeyed_some (Some f) s c h = (s, refusal_text f, (refl, refl))
 obeyed_some None s c h = let d = h refl in (d.0, reply_text d.0 d.1, (d.1, d.2, refl))

@@ -36,7 +36,7 @@ same_there s t x y h there =
     let e : x ≡ y = cc (h.1) in
     subst (λ (u : Session). IsThere u.scenario x) (sym h.0) (subst (IsThere s.scenario) (sym e) there)
 
--- a command that is not refused shows what is there
+-- a command that is not rejected shows what is there
 does_there : (s t : Session) (c : Command) (x : Shown) → refusal s c ≡ None → Does s c t (reply.Shown x) → IsThere t.scenario x
 does_there s t (command.Step n) x e h = absurd (cc (h.1))
 does_there s t (command.Back n) x e h = absurd (cc (h.1))
@@ -55,7 +55,7 @@ does_there s t (command.Node n) x e h = same_there s t x (shown.Node n) h tt
 does_there s t command.Links x e h = same_there s t x shown.Links h tt
 does_there s t command.Position x e h = same_there s t x shown.Position h tt
 
--- so does one that was obeyed, whether it may be refused or not
+-- so does one that was obeyed, whether it may be rejected or not
 pub obeyed_there : (o : Option DebugFault) (s t : Session) (c : Command) (x : Shown) → refusal s c ≡ o → Obeys o (Does s c) s t (Ok (reply.Shown x))
     → IsThere t.scenario x
 obeyed_there None s t c x e h = does_there s t c x e h

@@ -15,7 +15,7 @@ use Rattle.zy_debug.specs.declared.command.Reply.{Reply}
 use Rattle.zy_console.specs.Lines.{command_of}
 use Rattle.zy_console.specs.Replies.{reply_text, refusal_text, bad_command}
 
--- the command c leads from s to t, and says out: that it is refused, which changes nothing, or its reply
+-- the command c leads from s to t, and says out: that it is rejected, which changes nothing, or its reply
 abbrev pub Obeyed : Option DebugFault → Session → Command → Session → List ℕ → Type 0
 Obeyed (Some f) s c t out = (t ≡ s) × (out ≡ refusal_text f)
 Obeyed None s c t out = (r : Reply) × Does s c t r × (out ≡ reply_text t r)

@@ -1,4 +1,4 @@
--- Each command that is not refused leads to one session and has one reply.
+-- Each command that is not rejected leads to one session and has one reply.
 use Rattle.std.proofs.Common.{◌≡◌, ◌∙◌, ℕ, ◌+◌, ◌-◌, Bool, true, false, not, is_none, nat_le, nat_lt, Option, Some, None, refl, sym, ap, ap₂}
 use Rattle.std.proofs.lemmas.Option.{none-some}
 use Rattle.zy_stops.specs.declared.stop.Stop.{Stop}
@@ -44,7 +44,7 @@ module _ (s t u : Session) (r q : Reply) where
   same : (v : Session) (w : Reply) → (t ≡ v) × (r ≡ w) → (u ≡ v) × (q ≡ w) → (t ≡ u) × (r ≡ q)
   same v w h k = (h.0 ∙ sym k.0, h.1 ∙ sym k.1)
 
-  -- any command that is not refused
+  -- any command that is not rejected
   pub does_once : (c : Command) → Does s c t r → Does s c u q → (t ≡ u) × (r ≡ q)
   does_once (command.Step n) h k = same _ _ h k
   does_once (command.Back n) h k = same _ _ h k
@@ -96,7 +96,7 @@ in_range_too : (b : Bool) (s : Session) → has_room_in_range b s ≡ None → h
 in_range_too true s h = h
 in_range_too false s h = absurd (none-some fault.Range (sym h))
 
--- any command that is not refused
+-- any command that is not rejected
 pub is_done : (s : Session) (c : Command) → refusal s c ≡ None → IsDone s c
 is_done s (command.Step n) h = moves s (s.position + n)
 is_done s (command.Back n) h = moves s (s.position - n)

@@ -1,4 +1,4 @@
--- What each command refuses, where it goes, and what it replies.
+-- What each command rejects, where it goes, and what it replies.
 use Rattle.std.specs.Prelude.{ℕ, ◌≡◌, ◌+◌, ◌-◌, ◌==◌, ◌&&◌, Bool, true, false, not, nat_le, nat_lt, length, is_none}
 use Rattle.std.specs.Prelude.{slice_get, Option, Some, None, Result, Ok, Err}
 use Rattle.zy_isa.specs.Limits.{max_key}
@@ -38,7 +38,7 @@ has_room_in_range false s = Some fault.Range
 abbrev pub has_stop : ℕ → Slots → Bool
 has_stop n slots = not (n == 0) && is_set (slice_get slots (n - 1))
 
--- why a command is refused, if it is
+-- why a command is rejected, if it is
 abbrev pub refusal : Session → Command → Option DebugFault
 refusal s (command.Step n) = in_range (nat_le (s.position + n) (length s.scenario.choices))
 refusal s (command.Back n) = in_range (nat_le n s.position)
@@ -95,7 +95,7 @@ Deletes s n t r = (t ≡ record s { stops = without_stop (n - 1) s.stops }) × (
 abbrev pub Stays : Session → Shown → Session → Reply → Type 0
 Stays s x t r = (t ≡ s) × (r ≡ reply.Shown x)
 
--- what a command that is not refused does
+-- what a command that is not rejected does
 abbrev pub Does : Session → Command → Session → Reply → Type 0
 Does s (command.Step n) t r = Moves s (s.position + n) t r
 Does s (command.Back n) t r = Moves s (s.position - n) t r
@@ -118,7 +118,7 @@ abbrev pub DoneOrMemory : (Session → Reply → Type 0) → Session → Session
 DoneOrMemory Done s t (Ok r) = Done t r
 DoneOrMemory Done s t (Err f) = (f ≡ fault.Memory) × (t ≡ s)
 
--- it is done unless it is refused; a refusal changes nothing
+-- it is done unless it is rejected; a refusal changes nothing
 abbrev pub Obeys : Option DebugFault → (Session → Reply → Type 0) → Session → Session → Result Reply DebugFault → Type 0
 Obeys None Done s t result = DoneOrMemory Done s t result
 Obeys (Some f) Done s t result = (t ≡ s) × (result ≡ Err f)

@@ -40,7 +40,7 @@ pub enum Command {
     Position,
 }
 
-/// What a command that is not refused says.
+/// What a command that is not rejected says.
 #[derive(Clone, Copy)]
 pub enum Reply {
     /// The session is at this position.
@@ -70,7 +70,7 @@ pub enum Shown {
     Position,
 }
 
-/// Why a command is refused.
+/// Why a command is rejected.
 #[derive(Clone, Copy, Debug, Error)]
 pub enum DebugFault {
     /// There is no stop of this number.

@@ -8,7 +8,7 @@ use zy_asm::Reason;
 use zy_text::names::{is, is_name, is_numeral, label_of};
 use zy_text::numbers::number_of;
 
-/// The number, from 0, of the word for which a line is refused.
+/// The number, from 0, of the word for which a line is rejected.
 pub fn culprit(statement: Statement<'_>, above: Above, reason: Reason) -> usize {
     let form = Form::of(above.version, statement);
     match reason {

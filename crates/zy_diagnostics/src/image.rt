@@ -1,4 +1,4 @@
-//! Why an image is refused.
+//! Why an image is rejected.
 
 use crate::command::{CommandName, ForText};
 use std::fmt;
@@ -26,7 +26,7 @@ fn may_be_of_text(byte: u8) -> bool {
     byte.is_ascii_graphic() || byte.is_ascii_whitespace() || byte >= 0x80
 }
 
-/// Why an image is refused: where, what is wanted there and what is there, and what to do.
+/// Why an image is rejected: where, what is wanted there and what is there, and what to do.
 #[derive(Clone, Copy)]
 pub struct ImageAdvice<'a> {
     command: CommandName,
@@ -35,7 +35,7 @@ pub struct ImageAdvice<'a> {
 }
 
 impl<'a> ImageAdvice<'a> {
-    /// Why this command refuses this input.
+    /// Why this command rejects this input.
     pub fn of(command: CommandName, input: &'a [u8], refusal: ImageRefusal) -> ImageAdvice<'a> {
         ImageAdvice {
             command,

@@ -1,5 +1,5 @@
-//! Words that help: of an input that is refused, what is wrong, what to write, and where. They are read from its bytes
-//! again, beside the reader that refused it, so nothing is proved of them but that each function is safe and ends. None
+//! Words that help: of an input that is rejected, what is wrong, what to write, and where. They are read from its bytes
+//! again, beside the reader that rejected it, so nothing is proved of them but that each function is safe and ends. None
 //! of them takes memory.
 #![tactic(auto)]
 

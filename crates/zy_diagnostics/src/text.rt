@@ -1,4 +1,4 @@
-//! Why a text is refused.
+//! Why a text is rejected.
 
 use crate::above::Above;
 use crate::command::{CommandName, ForImage};
@@ -15,13 +15,13 @@ use std::str::from_utf8;
 use zy_asm::{LineFault, Reason};
 use zy_isa::ProgramFault;
 
-/// Why a text is refused: what is wrong, what to write, and where.
+/// Why a text is rejected: what is wrong, what to write, and where.
 #[derive(Clone, Copy)]
 pub struct TextAdvice<'a> {
     pub(crate) command: CommandName,
     pub(crate) input: &'a [u8],
     pub(crate) reason: Reason,
-    /// The lines above the refused one.
+    /// The lines above the rejected one.
     pub(crate) lines: &'a [u8],
     pub(crate) above: Above,
     pub(crate) line: SourceLine<'a>,
@@ -38,7 +38,7 @@ pub struct Position {
 }
 
 impl<'a> TextAdvice<'a> {
-    /// Why this command refuses this input.
+    /// Why this command rejects this input.
     pub fn of(command: CommandName, input: &'a [u8], refusal: LineFault) -> TextAdvice<'a> {
         let lines = lines_above(input, refusal.line);
         let line = SourceLine::of(input, refusal.line);
@@ -53,7 +53,7 @@ impl<'a> TextAdvice<'a> {
         }
     }
 
-    /// Where the fault is: at the word that is at fault, or else where the refused line begins.
+    /// Where the fault is: at the word that is at fault, or else where the rejected line begins.
     pub fn position(&self) -> Position {
         let number = self.line.number;
         match self.place() {

@@ -17,7 +17,7 @@ fn is_end(line: &[u8]) -> bool {
 }
 
 impl TextAdvice<'_> {
-    /// Whether the refused line is one of a log, and no line of the input is `end`.
+    /// Whether the rejected line is one of a log, and no line of the input is `end`.
     pub(crate) fn is_unended(&self) -> bool {
         let is_of_words = matches!(self.reason, Reason::WordCount | Reason::NotKnown(_));
         let is_of_log = self.statement.has(b"->") || self.statement.has(b"!");

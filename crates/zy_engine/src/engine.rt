@@ -1,5 +1,5 @@
 //! The engines of `run`, `trace`, `asm` and `dis`: bytes in, bytes out. Each is a function on an input in hand, and one that reads
-//! the input first. That one leaves what it has read to its caller, who can look at it again where it is refused.
+//! the input first. That one leaves what it has read to its caller, who can look at it again where it is rejected.
 ghost use Rattle.std.specs.Prelude.{◌<◌};
 ghost use Rattle.zy_engine.specs.Engines.{ReadsInput, streams};
 ghost use Rattle.zy_engine.specs.Faults.{of_reading};

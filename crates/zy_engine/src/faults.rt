@@ -1,4 +1,4 @@
-//! Why a run was refused.
+//! Why a run was rejected.
 ghost use Rattle.std.specs.Prelude.{◌≡◌};
 ghost use Rattle.zy_engine.specs.Faults.{of_image_refusal, of_reading, of_refusal, of_writing, status_of};
 
@@ -11,10 +11,10 @@ use zy_io::{ReadFault, TextFault};
 /// Why an engine gave up. Its text names the fault, and says what is wrong.
 #[derive(Clone, Copy, Debug, Error)]
 pub enum BenchFault {
-    /// The scenario text is refused, from this line on.
+    /// The scenario text is rejected: this is its first faulty line.
     #[error("Input(line {}, {:?}): {}", .0.line, .0.reason.kind(), .0.reason)]
     Input(LineFault),
-    /// The image is refused.
+    /// The image is rejected.
     #[error("Image({:?}): {}", .0.fault, .0)]
     Image(ImageRefusal),
     /// The input is longer than an engine takes.
@@ -32,7 +32,7 @@ pub enum BenchFault {
 }
 
 impl BenchFault {
-    /// The exit status: 1 where the input is refused, 3 out of memory, 5 where reading or writing failed.
+    /// The exit status: 1 where the input is rejected, 3 out of memory, 5 where reading or writing failed.
     pub fn status(self) -> u8
         ensures { result ≡ status_of self }
     {

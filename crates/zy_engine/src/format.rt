@@ -24,7 +24,7 @@ pub enum Format {
 pub fn accept(alloc: Global, format: Format, bytes: &[u8]) -> Result<Scenario, BenchFault>
     // What is accepted stands for the scenario and for no other, and has no fault.
     ensures accepted { IfOk result (IsAccepted format bytes.now) }
-    // What is refused is reported by its first fault.
+    // What is rejected is reported by its first fault.
     ensures fault { IfErr result (IsRefusal format bytes.now) }
 {
     match format {

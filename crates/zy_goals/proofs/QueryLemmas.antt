@@ -77,7 +77,7 @@ value_or y (Some x) = x
 
 -- ---- goals
 
--- what is read is what the words mean, and nothing else is; what is refused means nothing
+-- what is read is what the words mean, and nothing else is; what is rejected means nothing
 abbrev pub AnswersGoal : Names → List Word → Result Query GoalFault → Type 0
 AnswersGoal names ws (Ok q) = Means names ws q × ((r : Query) → Means names ws r → AreOne q r)
 AnswersGoal names ws (Err e) = OnRefused e (IsNoGoal names ws)
@@ -89,7 +89,7 @@ pub goal_clauses : (names : Names) (ws : List Word) (x : Result Query GoalFault)
 goal_clauses names ws (Ok q) h = (h.0, h.1, tt)
 goal_clauses names ws (Err e) h = (tt, tt, h)
 
--- the expression is refused
+-- the expression is rejected
 pub goal_missed : (names : Names) (ws : List Word) (e : GoalFault) → begin_with (codes "then") ws ≡ false
     → Answers names 0 ws max_parts (Err e) → AnswersGoal names ws (Err e)
 goal_missed names ws Memory b h = tt
@@ -162,7 +162,7 @@ goal_then names ws (Err (Refused r)) b a = record {
 
 -- ---- goals that every state is to meet
 
--- what is read is what the words mean, and nothing else is; what is refused means nothing
+-- what is read is what the words mean, and nothing else is; what is rejected means nothing
 abbrev pub AnswersNever : Names → List Word → Result Query GoalFault → Type 0
 AnswersNever names ws (Ok q) = MeansNever names ws q × ((r : Query) → MeansNever names ws r → AreOne q r)
 AnswersNever names ws (Err e) = OnRefused e (IsNoInvariant names ws)
@@ -174,7 +174,7 @@ pub never_clauses : (names : Names) (ws : List Word) (x : Result Query GoalFault
 never_clauses names ws (Ok q) h = (h.0, h.1, tt)
 never_clauses names ws (Err e) h = (tt, tt, h)
 
--- the expression is refused
+-- the expression is rejected
 pub never_missed : (names : Names) (ws : List Word) (e : GoalFault) → Answers names 0 ws max_parts (Err e)
     → AnswersNever names ws (Err e)
 never_missed names ws Memory h = tt

@@ -153,7 +153,7 @@ pub not_uncounted : (names : Names) (ws : List Word) (n : ℕ) (e : GoalFault) �
 not_uncounted names ws n e b h =
     missed names 2 ws n e (λ t rest r s. let u = inside_not names t ws rest b r in (omega (arith, u.2, h.0), h.1))
 
--- what `not` negates is refused
+-- what `not` negates is rejected
 pub not_missed : (names : Names) (ws vs : List Word) (n m : ℕ) (e : GoalFault) → begin_with (codes "not") ws ≡ true → n ≡ suc m
     → vs ≡ after ws → Answers names 2 vs m (Err e) → Answers names 2 ws n (Err e)
 not_missed names ws vs n m Memory b en ev h = tt
@@ -200,7 +200,7 @@ pub brackets_uncounted : (names : Names) (ws : List Word) (n : ℕ) (e : GoalFau
 brackets_uncounted names ws n e b h =
     missed names 2 ws n e (λ t rest r s. let u = inside_brackets names t ws rest b r in (omega (arith, u.2, h.0), h.1))
 
--- what stands in brackets is refused
+-- what stands in brackets is rejected
 pub brackets_missed : (names : Names) (ws vs : List Word) (n m : ℕ) (e : GoalFault) → begin_with (codes "(") ws ≡ true → n ≡ suc m
     → vs ≡ after ws → Answers names 0 vs m (Err e) → Answers names 2 ws n (Err e)
 brackets_missed names ws vs n m Memory b en ev h = tt
@@ -317,7 +317,7 @@ spine names And (joined And t u) ws rest r =
       whole = ap (λ v. joined And v u) s.whole ∙ all_joined-end And s.head s.tail u;
     }
 
--- the first operand is refused
+-- the first operand is rejected
 pub chain_missed : (names : Names) (o : Operator) (ws : List Word) (n : ℕ) (e : GoalFault) → Answers names (suc (level_of o)) ws n (Err e)
     → Answers names (level_of o) ws n (Err e)
 chain_missed names o ws n Memory h = tt
@@ -326,7 +326,7 @@ chain_missed names o ws n (Refused f) h = λ t rest r s.
     let k = h x.head x.mid x.reads (chain_stops names o x.tail x.mid rest x.chain s) in
     (omega (arith, k.0, x.parts), k.1)
 
--- the first operand was read, and those behind it are read or refused
+-- the first operand was read, and those behind it are read or rejected
 pub chain_more : (names : Names) (o : Operator) (ws : List Word) (n : ℕ) (p : Prefix) (x : Result Prefix GoalFault)
     → Finds names (suc (level_of o)) ws n p → AnswersMore names o p x → Answers names (level_of o) ws n x
 chain_more names o ws n p (Ok q) f g =
@@ -404,7 +404,7 @@ more_uncounted names o p e b h =
     missed_more names o p e (λ us rest ch s.
     let x = next names o us (left p.at) rest b ch s in (omega (arith, x.parts, h.0), h.1))
 
--- the next operand is refused
+-- the next operand is rejected
 pub more_missed : (names : Names) (o : Operator) (p : Prefix) (vs : List Word) (m : ℕ) (e : GoalFault)
     → begin_with (word_of o) (left p.at) ≡ true → p.spare ≡ suc m → vs ≡ after (left p.at)
     → Answers names (suc (level_of o)) vs m (Err e) → AnswersMore names o p (Err e)
@@ -415,7 +415,7 @@ more_missed names o p vs m (Refused f) b en ev h = λ us rest ch s.
     let k = h x.head x.mid r (chain_stops names o x.tail x.mid rest x.chain s) in
     (omega (arith, k.0, x.parts, en), k.1)
 
--- the next operand was read and joined, and those behind it are read or refused
+-- the next operand was read and joined, and those behind it are read or rejected
 pub more_joined : (names : Names) (o : Operator) (p q j : Prefix) (vs : List Word) (m : ℕ) (x : Result Prefix GoalFault)
     → begin_with (word_of o) (left p.at) ≡ true → p.spare ≡ suc m → vs ≡ after (left p.at)
     → Finds names (suc (level_of o)) vs m q → Joins o p q j → AnswersMore names o j x → AnswersMore names o p x

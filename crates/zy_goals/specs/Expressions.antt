@@ -25,7 +25,7 @@ pub record Finds (names : Names) (l : ℕ) (ws : List Word) (n : ℕ) (p : Prefi
   pub only : (t : Tree) (rest : List Word) → Reads names l t ws rest → Stops l rest
       → (rest ≡ left p.at) × (parts_of t + p.spare ≡ n) × Says t p.goal
 
--- the words are refused for the number of parts alone
+-- the words are rejected for the number of parts alone
 abbrev pub IsForParts : GoalFault → Type 0
 IsForParts Memory = Unit {0}
 IsForParts (Refused r) = r.expected ≡ expected.FewerParts

@@ -138,13 +138,13 @@ abbrev pub OnRefused : GoalFault → (WordFault → Type 0) → Type 0
 OnRefused (Refused r) P = P r
 OnRefused Memory P = Unit {0}
 
--- The words mean no query. Where they are refused although they would mean one if more parts were allowed, the refusal says
+-- The words mean no query. Where they are rejected although they would mean one if more parts were allowed, the refusal says
 -- so.
 pub record IsNoGoal (names : Names) (ws : List Word) (r : WordFault) : Type 0 where
   pub nothing : (q : Query) → Means names ws q → ⊥
   pub too_long : IsTooLong names ws → r.expected ≡ expected.FewerParts
 
--- The words mean no goal that every state is to meet. Where they are refused although they would mean one if more parts were
+-- The words mean no goal that every state is to meet. Where they are rejected although they would mean one if more parts were
 -- allowed, the refusal says so.
 pub record IsNoInvariant (names : Names) (ws : List Word) (r : WordFault) : Type 0 where
   pub nothing : (q : Query) → MeansNever names ws q → ⊥

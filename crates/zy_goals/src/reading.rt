@@ -1,5 +1,5 @@
 //! Reads goals. The grammar is in docs/search.md, and `Means` of specs/Grammar.antt says which words mean which goal. The
-//! word at hand decides what comes, and a text is refused at the first word that does not fit.
+//! word at hand decides what comes, and a text is rejected at the first word that does not fit.
 ghost use Rattle.std.specs.Prelude.{◌≡◌, true, codes, IfOk, IfErr};
 ghost use Rattle.zy_goals.specs.Words.{words_of, begin_with};
 ghost use Rattle.zy_goals.specs.Cursors.{left, found};
@@ -125,7 +125,7 @@ fn asked_never(alloc: Global, part: Prefix<'_>) -> Result<Query, GoalFault>
     }
 }
 
-/// Reads a goal, `then` after it or not, or `then` alone, which asks for a step from any state. It is refused at the
+/// Reads a goal, `then` after it or not, or `then` alone, which asks for a step from any state. It is rejected at the
 /// first word that does not fit.
 pub fn read_goal(alloc: Global, text: &[u8], names: Names<'_>) -> Result<Query, GoalFault>
     // What is read is what the words mean.
@@ -133,7 +133,7 @@ pub fn read_goal(alloc: Global, text: &[u8], names: Names<'_>) -> Result<Query, 
     // They mean nothing else.
     ensures only { IfOk result (λ query. (other : AQuery) → Means names.entry (words_of text.now) other
         → AreOne query other) }
-    // What is refused means nothing.
+    // What is rejected means nothing.
     ensures refused { IfErr result (λ fault. OnRefused fault (IsNoGoal names.entry (words_of text.now))) }
 {
     let start = GoalCursor::new(text);
@@ -145,14 +145,14 @@ pub fn read_goal(alloc: Global, text: &[u8], names: Names<'_>) -> Result<Query, 
 }
 
 /// Reads a goal that every state is to meet, and gives its negation: a state is asked for that does not meet it. It is
-/// refused at the first word that does not fit; `then` is such a word.
+/// rejected at the first word that does not fit; `then` is such a word.
 pub fn read_always(alloc: Global, text: &[u8], names: Names<'_>) -> Result<Query, GoalFault>
     // What is read is the negation of what the words mean.
     ensures meant { IfOk result (λ query. MeansNever names.entry (words_of text.now) query) }
     // They mean nothing else.
     ensures only { IfOk result (λ query. (other : AQuery) → MeansNever names.entry (words_of text.now) other
         → AreOne query other) }
-    // What is refused means nothing.
+    // What is rejected means nothing.
     ensures refused { IfErr result (λ fault. OnRefused fault (IsNoInvariant names.entry (words_of text.now))) }
 {
     let start = GoalCursor::new(text);

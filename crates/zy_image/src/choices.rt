@@ -139,7 +139,7 @@ pub fn choices(
     read_items(alloc, &ChoiceItems { count, size }, number, left)
 }
 
-/// The scenario with these choices in place of its own. Both are dropped where the choices are refused. It takes no
+/// The scenario with these choices in place of its own. Both are dropped where the choices are rejected. It takes no
 /// memory.
 pub fn with_choices(scenario: Scenario, choices: Vec<Choice>) -> Result<Scenario, LoadFault>
     ensures { HasChoices result scenario choices.items }

@@ -34,7 +34,7 @@ pub const MAX_TXNS: usize = 64;
 /// The most choices.
 pub const MAX_CHOICES: usize = 4096;
 
-/// Why a scenario is refused. The first that holds is reported; rows and choices count from 0.
+/// Why a scenario is rejected. The first that holds is reported; rows and choices count from 0.
 #[derive(Clone, Copy, Debug, Error)]
 pub enum ScenarioFault {
     /// There is no such version.
@@ -202,7 +202,7 @@ fn copy_programs(alloc: Global, programs: &[Program]) -> Result<Vec<Program>, Al
 }
 
 impl Scenario {
-    /// Tests the parts of a scenario, with the number of its version; they are dropped where they are refused. It takes
+    /// Tests the parts of a scenario, with the number of its version; they are dropped where they are rejected. It takes
     /// no memory.
     pub fn new(
         version: u8,
@@ -317,7 +317,7 @@ impl Scenario {
         }
     }
 
-    /// This scenario with other choices in place of its own. Both are dropped where they are refused. It takes no
+    /// This scenario with other choices in place of its own. Both are dropped where they are rejected. It takes no
     /// memory.
     pub fn with_choices(self, choices: Vec<Choice>) -> Result<Scenario, ScenarioFault>
         ensures { HasChoices result self choices.items }

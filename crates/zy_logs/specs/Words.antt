@@ -39,7 +39,7 @@ end_outcome ws = are_none ws || begin_with (codes "!") ws
 abbrev pub stop : ExpectedInLog → List Word → Misfit
 stop e ws = record { left = length ws; expected = e }
 
--- the first word is refused
+-- the first word is rejected
 abbrev pub refused : {T : Type 0} → ExpectedInLog → List Word → Read T
 refused e ws = Err (stop e ws)
 

@@ -1,4 +1,4 @@
-//! Why a line of a log is refused.
+//! Why a line of a log is rejected.
 ghost use Rattle.std.specs.Prelude.{◌≡◌};
 ghost use Rattle.zy_logs.specs.Kinds.{kind_of};
 

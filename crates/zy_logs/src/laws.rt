@@ -19,7 +19,7 @@ pub fn logs_fit()
         → logs_of txns gap most first text ≡ Ok lines → steps_in gap lines ≤ most }
 {}
 
-/// Whatever a line says of the outcome of a step, its choice can give. So no line is refused for an outcome that a step of its
+/// Whatever a line says of the outcome of a step, its choice can give. So no line is rejected for an outcome that a step of its
 /// choice has in some scenario and state.
 pub fn steps_are_possible()
     ensures { (sc : AScenario) → (c : AChoice) → (s : State) → (told : WhatIsTold) → Tells told (step sc c s).outcome

@@ -1,4 +1,4 @@
-//! Reads a line of a log, word by word. The word at hand decides what comes, and a line is refused at the first word that
+//! Reads a line of a log, word by word. The word at hand decides what comes, and a line is rejected at the first word that
 //! does not fit.
 ghost use Rattle.std.specs.Prelude.{◌≡◌, ◌≤◌};
 ghost use Rattle.zy_isa.specs.Limits.{max_txns};
@@ -24,7 +24,7 @@ use crate::txns::Txns;
 use zy_isa::Choice;
 use zy_model::Kind;
 
-/// The outcome that begins with the word at hand. That word is refused where no step of the choice gives the outcome.
+/// The outcome that begins with the word at hand. That word is rejected where no step of the choice gives the outcome.
 fn possible<'a>(txns: Txns<'a>, choice: Choice, at: LogCursor<'a>) -> Parsed<'a, Told>
     requires { txns.count ≤ max_txns }
     ensures { read result ≡ spec.possible txns.entry choice (left at.entry) }

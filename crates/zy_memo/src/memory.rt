@@ -73,8 +73,8 @@ impl Memory {
         Ok(numbers)
     }
 
-    /// Whether nothing comes of a choice from a state with these numbers, by its transaction alone. Where it answers yes,
-    /// nothing does.
+    /// Whether nothing comes of a choice from a state with these numbers, by a byte or two of the parts that it reads.
+    /// Where it answers yes, nothing does.
     pub fn rests(&self, choice: Choice, numbers: &[u32]) -> bool
         ensures { result ≡ true → (sc : Scenario) (s : State) → Numbers self.now s numbers.now
             → is_idle (step sc choice s).outcome ≡ true }

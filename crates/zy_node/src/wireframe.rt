@@ -1,5 +1,5 @@
-//! The wireframe of a node: a node without pages has none. What is said of a number `n` holds of each that is not below
-//! the wireframe's limit.
+//! The wireframe of a node: an empty node has none. What is said of a number `n` holds of each that is not below the
+//! wireframe's limit.
 ghost use Rattle.std.specs.Prelude.{◌≡◌, ◌==◌, ◌<◌, ◌≤◌, ◌++◌, ◌∷◌, [], ℕ, IfOk, OnOk, IsOk, Contains, length};
 ghost use Rattle.zy_model.specs.Wireframe as wireframe;
 ghost use Rattle.zy_wire.specs.Ranges.{in_range};
@@ -41,7 +41,7 @@ pub fn page_of(wire: &Option<Wire>, key: u16) -> u16
     }
 }
 
-/// The keys that lie on a page. Without pages every key counts as one of page 0, as in `page_of`.
+/// The keys that lie on a page. Without a wireframe every key counts as one of page 0, as in `page_of`.
 #[tactic(auto, unfolding(zy_model::specs::Wireframe::page_of))]
 pub fn keys_of(wire: &Option<Wire>, page: u16) -> KeyRange
     ensures { (k : ℕ) → in_range result k ≡ (wireframe.page_of (lows_in wire.now) k == page) }

@@ -41,7 +41,7 @@ wrote_failed o sc lines gaps a old new before after Memory are is wrote =
 -- ---- an input
 
 module _ (o : OrderOptions) (input : List ℕ) (old : Option (List ℕ)) (before : ℕ) where
-  -- its scenario part is refused
+  -- its scenario part is rejected
   pub refused_text : (f : BenchFault) → IsTextFault (cut input) f → Answers o input old old before before (Err (Bench f))
   refused_text (bench.Input r) h =
       record { answered = tt; part = inl refl; fault = inl h; quiet = λ q. refl; writes = omega arith }

@@ -154,7 +154,7 @@ pub record Answers (o : OrderOptions) (input : List ℕ) (old new : Option (List
   pub answered : IfOk result (λ r. WroteText (IsAnswerTo o input) old new r.answer)
   -- whatever comes, nothing but a prefix of a text of an answer went out
   pub part : WrotePart (IsAnswerTo o input) old new
-  -- a refused input is reported by its first fault
+  -- a rejected input is reported by its first fault
   pub fault : IfErr result (IsFaultOf o input)
   -- before the input is accepted nothing is written
   pub quiet : IfErr result (λ f. IsQuiet f → new ≡ old)

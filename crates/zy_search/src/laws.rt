@@ -47,8 +47,8 @@ pub fn nowhere_runs()
         → Shows (scheduled h cs) q (ending (scheduled h cs)) → ⊥ }
 {}
 
-/// Under the rule `held` no choices lead to another database than that of the serial run: a search for `differs`
-/// answers that there is none, or that it came to no end, and in any other goal `differs` never holds.
+/// Under the rule `held` a search finds no choices for `differs`: it answers that there are none, or that it gave up.
+/// What it finds for any other goal meets that goal with `differs` taken as false.
 pub fn never_differs_under_held()
     ensures alone { (h : History) (q : Sought) (cs : List AChoice) → IsReplay h → h.scenario.rule ≡ Held
         → q.goal ≡ Is Differs → Finds h q cs → ⊥ }

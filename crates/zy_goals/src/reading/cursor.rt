@@ -156,7 +156,7 @@ impl<'a> GoalCursor<'a> {
         }
     }
 
-    /// What the word was found to stand for; it is refused where nothing was found.
+    /// What the word was found to stand for; it is rejected where nothing was found.
     pub fn gives<T: Copy>(self, found: Option<T>, expected: ExpectedInGoal) -> Parsed<'a, T>
         ensures { read result ≡ option_map (λ x. (x, after (left self.entry))) found }
     {

@@ -35,7 +35,7 @@ pub struct Prefix<'a> {
     pub spare: usize,
 }
 
-/// Counts a fact, an operator or a pair of brackets, which begins with the word at hand. It is refused where no more may
+/// Counts a fact, an operator or a pair of brackets, which begins with the word at hand. It is rejected where no more may
 /// come.
 fn count(at: GoalCursor<'_>, spare: usize) -> Result<usize, GoalFault>
     ensures { Counts spare result }

@@ -88,7 +88,7 @@ fn committed<'a>(names: Names<'a>, selector: Selector, at: GoalCursor<'a>) -> Pa
     Ok((StateFact::Txns(selector, TxnProperty::Committed), at))
 }
 
-/// What comes after `txn T locks`: a page. It is said of one transaction alone; else `locks` is refused.
+/// What comes after `txn T locks`: a page. It is said of one transaction alone; else `locks` is rejected.
 #[tactic(auto, unfolding(crate::specs::Phrases::locks))]
 fn locks<'a>(selector: Selector, locks: GoalCursor<'a>) -> Parsed<'a, StateFact>
     ensures { read result ≡ spec.locks selector (after (left locks.entry)) }

@@ -59,7 +59,7 @@ fn done_of<'a>(names: Names<'a>, at: GoalCursor<'a>) -> Parsed<'a, Term>
     Ok((Term::Done(txn), at))
 }
 
-/// A term that begins with a word. Where the word at hand begins none, it is refused with what was expected there.
+/// A term that begins with a word. Where the word at hand begins none, it is rejected with what was expected there.
 #[tactic(auto, unfolding(crate::specs::Phrases::spelled_term))]
 fn spelled_term<'a>(
     names: Names<'a>,
@@ -86,7 +86,7 @@ fn spelled_term<'a>(
     }
 }
 
-/// A term. Where the word at hand begins none, it is refused with what was expected there.
+/// A term. Where the word at hand begins none, it is rejected with what was expected there.
 #[tactic(auto, unfolding(crate::specs::Phrases::term_of))]
 fn term_at<'a>(names: Names<'a>, at: GoalCursor<'a>, expected: ExpectedInGoal) -> Parsed<'a, Term>
     ensures { read result ≡ spec.term_of names.entry (left at.entry) }

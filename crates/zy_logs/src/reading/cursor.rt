@@ -82,7 +82,7 @@ impl<'a> LogCursor<'a> {
         }
     }
 
-    /// What the word was found to stand for; it is refused where nothing was found.
+    /// What the word was found to stand for; it is rejected where nothing was found.
     pub fn gives<T: Copy>(self, found: Option<T>, expected: ExpectedInLog) -> Parsed<'a, T>
         ensures { read result ≡ spec.gives found expected (left self.entry) }
     {

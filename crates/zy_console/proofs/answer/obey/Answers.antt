@@ -1,4 +1,4 @@
--- What is shown is there, since the command was not refused.
+-- What is shown is there, since the command was not rejected.
 use Rattle.std.proofs.Common.{refl, subst, sym}
 use Rattle.zy_isa.specs.Scenario.{Scenario}
 use Rattle.zy_debug.specs.Commands.{refusal}

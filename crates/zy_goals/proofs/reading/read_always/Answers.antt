@@ -1,4 +1,4 @@
--- What is refused is no goal that every state could meet.
+-- What is rejected is no goal that every state could meet.
 use Rattle.std.proofs.Common.{subst, Err}
 use Rattle.std.proofs.lemmas.Result.{err_from_is_err_and}
 use Rattle.zy_goals.specs.Words.{words_of}

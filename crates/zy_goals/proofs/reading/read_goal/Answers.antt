@@ -1,4 +1,4 @@
--- What is refused is no goal.
+-- What is rejected is no goal.
 use Rattle.std.proofs.Common.{◌∙◌, sym, subst, Err}
 use Rattle.std.proofs.lemmas.Result.{err_from_is_err_and}
 use Rattle.zy_goals.specs.Words.{words_of}
