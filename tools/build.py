@@ -60,10 +60,10 @@ def minutes():
 
 
 def side_by_side():
-    """How many proofs there is room for."""
+    """How many proofs there is room for: one more than processors, where these are more than two, since a proof by several jobs leaves some of them idle."""
     with open('/proc/meminfo', encoding='ascii') as file:
         free = int(re.search(r'MemAvailable: *([0-9]+) kB', file.read()).group(1)) << 10
-    return max(1, min(PROCESSORS, free // MEMORY))
+    return max(1, min(PROCESSORS + (PROCESSORS > 2), free // MEMORY))
 
 
 def link(source, to):
@@ -147,16 +147,19 @@ class Build:
             self.weigh(name)
         self.left, self.under_way, self.done = set(self.needs), [], set()
         self.begun, self.room = time.monotonic(), side_by_side()
+        self.jobs = min(PROCESSORS, self.room)
 
     def begin(self):
         """Begins proofs while there is room, first those on which most of the work waits. The one of all on which most waits goes before the others, with
-        as many jobs as there is room for proofs; each of the others has two jobs, for what that one leaves idle, but on two processors one: by two
-        jobs a proof takes a fifth more of the processors."""
+        as many jobs as there are; each of the others has those that are left if each proof that is under way or waits for room has one: by more jobs a proof
+        takes a fifth more of the processors."""
         ready = sorted((name for name in self.left if self.needs[name] <= self.done), key=self.behind.get, reverse=True)
         first = max(self.needs.keys() - self.done, key=self.behind.get)
-        for name in ready[:self.room - len(self.under_way)]:
+        while ready and len(self.under_way) < self.room:
+            name = ready.pop(0)
             self.left.remove(name)
-            jobs = self.room if name == first else max(1, min(2, self.room - 1))
+            idle = self.jobs - len(self.under_way) - len(ready)
+            jobs = self.jobs if name == first else max(1, idle)
             self.under_way.append(Proof(name, self.below(name), jobs, name == first))
 
     def below(self, name):
@@ -190,7 +193,7 @@ class Build:
         """How many minutes the proofs take on one processor, and by estimate on those that are here: about a fifth of it goes one after the other, however
         many there are."""
         total = sum(self.cost(name) for name in self.needs)
-        return math.ceil(total), math.ceil(total / 5 + total * 4 / 5 / self.room)
+        return math.ceil(total), math.ceil(total / 5 + total * 4 / 5 / self.jobs)
 
     def outlook(self):
         """How many crates are left, and how long they take at the pace so far."""

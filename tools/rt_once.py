@@ -1,6 +1,7 @@
-"""rt, with two things done otherwise. It takes the sum of a crate's files once for each question: some kits' rt takes it anew for each way down the crates, of
-which there are thousands. What rt asks again after a proof, to see whether a file was changed meanwhile, is a question of its own. And `rt lib` leaves a
-library's statements in place of its whole proof, as the gate does, so that the crates above it load less.
+"""rt, with three things done otherwise. It takes the sum of each crate's files once before a proof and once after it, which tells whether a file was changed
+meanwhile: rt takes it again for each crate above, and some kits' rt for each way down the crates. `rt lib` leaves a library's statements in place of its
+whole proof, as the gate does, so that the crates above it load less. And where no check has kept work on a program in its folder out, `rt run` keeps none,
+which is faster and takes up to 5 GiB of memory; by one job it keeps some.
 
     rt_once.py WORD ..
 
@@ -10,26 +11,31 @@ import importlib.util
 import os
 import shutil
 import sys
-import threading
 from importlib.machinery import SourceFileLoader
 
 
-def once(method):
-    """A method without arguments, which calls itself for the crates below: within one call from outside the value for each crate is found once."""
-    local = threading.local()
+def once(method, found):
+    """A method without arguments, whose value for each crate is found once as long as the values that were found are kept."""
 
     def value(crate):
-        if getattr(local, 'kept', None) is not None:
-            if crate.folder not in local.kept:
-                local.kept[crate.folder] = method(crate)
-            return local.kept[crate.folder]
-        local.kept = {}
-        try:
-            return method(crate)
-        finally:
-            local.kept = None
+        key = crate.folder, method
+        if key not in found:
+            found[key] = method(crate)
+        return found[key]
 
     return value
+
+
+def forgetting(call, found):
+    """A call of rattle, during which files may change: nothing that was found before counts after it."""
+
+    def called(crate, *words):
+        try:
+            return call(crate, *words)
+        finally:
+            found.clear()
+
+    return called
 
 
 def with_statements(build, rattle):
@@ -50,14 +56,29 @@ def with_statements(build, rattle):
     return build_rlib
 
 
+def without_keeping(call, kept):
+    """A call of rattle by several jobs, for which there is more memory, without the flag by which it keeps its work, where the crate has none kept."""
+
+    def called(crate, *words):
+        if kept[0] in words and not crate.has_kept() and '--jobs' in words and words[words.index('--jobs') + 1] != '1':
+            at = words.index(kept[0])
+            words = words[:at] + words[at + len(kept):]
+        return call(crate, *words)
+
+    return called
+
+
 def main(words):
     path = os.path.realpath(shutil.which('rt'))
     try:
         loader = SourceFileLoader('rt', path)
         rt = importlib.util.module_from_spec(importlib.util.spec_from_loader('rt', loader))
         loader.exec_module(rt)
-        crate = rt.rtlib.Crate
-        crate.stamp, crate.below = once(crate.stamp), once(crate.below)
+        crate, found = rt.rtlib.Crate, {}
+        crate.stamp, crate.below = once(crate.stamp, found), once(crate.below, found)
+        crate.call, crate.prove = forgetting(crate.call, found), forgetting(crate.prove, found)
+        if hasattr(rt.rtlib, 'KEPT'):
+            crate.call = without_keeping(crate.call, rt.rtlib.KEPT)
         if '--statements' in rt.rtlib.help_of('build'):
             crate.build_rlib = with_statements(crate.build_rlib, rt.rtlib.RATTLE)
     except (AttributeError, OSError, SyntaxError):
