@@ -6,11 +6,11 @@ use crate::command_line::request::Quest;
 use crate::exit_status::{COMMAND_LINE, DONE, NOWHERE, SPENT};
 use crate::explained::explain_found;
 use crate::marked::Marked;
-use crate::names::names_of;
 use crate::output::{PipeSink, flush};
 use crate::progress::Progress;
 use crate::summary::{Count, Summary};
 use std::alloc::Global;
+use std::fmt;
 use std::io::{Read, Write};
 use std::thread::Threads;
 use std::time::Clock;
@@ -23,6 +23,7 @@ use zy_goals::{GoalFault, Names};
 use zy_io::CountingReader;
 use zy_io::reading::read_all;
 use zy_machine::Machine;
+use zy_ordering::names::names_of;
 use zy_search::{SearchAnswer, SearchReport, Sought};
 
 /// What a search is to look for, in a scenario whose transactions have these names.
@@ -279,9 +280,21 @@ fn warn_in(rt: &impl Eprint, machine: &Machine, named: Named) {
 fn warn_of(rt: &impl Eprint, word: &str, named: usize, count: usize) {
     if count < named {
         let last = named.saturating_sub(1);
-        let _ = eprintln!(rt;
-            "zy_bench: the goal names {word} {last}, and the scenario has only those below {count}"
-        );
+        let has = Has(count);
+        let _ = eprintln!(rt; "zy_bench: the goal names {word} {last}, and the scenario has {has}");
+    }
+}
+
+/// How many of something a scenario has, and so which numbers they have.
+#[derive(Clone, Copy)]
+struct Has(usize);
+
+impl fmt::Display for Has {
+    fn fmt<W: fmt::Write>(&self, f: &mut fmt::Formatter<W>) -> fmt::Result {
+        match self.0 {
+            0 => f.write_str("none"),
+            count => write!(f, "only those below {count}"),
+        }
     }
 }
 

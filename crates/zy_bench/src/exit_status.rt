@@ -9,7 +9,7 @@ pub const COMMAND_LINE: u8 = 2;
 /// The exit status where the input is not the listing that it should be.
 pub const NOT_TABLE: u8 = 4;
 
-/// The exit status where no schedule, or no state of a run, shows what is looked for.
+/// The exit status where no schedule, or no state of a run, shows what is looked for, and where the logs have no order.
 pub const NOWHERE: u8 = 4;
 
 /// The exit status where a search came to no end.

@@ -98,14 +98,14 @@ impl<F: Read + Drop, S: Read> Read for Given<F, S> {
 /// Why an input could not be opened or read.
 #[derive(Clone, Copy)]
 pub struct Failure {
-    cause: Cause,
+    obstacle: Obstacle,
     /// Whether it is of a file, and not of standard input.
     pub is_file: bool,
 }
 
 /// What is the matter with an input.
 #[derive(Clone, Copy)]
-enum Cause {
+enum Obstacle {
     /// There is no such file.
     Missing,
     /// It may not be read.
@@ -121,14 +121,14 @@ enum Cause {
 impl Failure {
     /// What an error of a file, or else of standard input, says.
     pub fn of(error: &io::Error, is_file: bool) -> Failure {
-        let cause = match error.kind() {
-            ErrorKind::NotFound | ErrorKind::NotADirectory => Cause::Missing,
-            ErrorKind::PermissionDenied => Cause::Forbidden,
-            ErrorKind::IsADirectory => Cause::Directory,
-            _ if error.raw_os_error() == Some(NOT_OPEN) => Cause::NotOpen,
-            _ => Cause::Other,
+        let obstacle = match error.kind() {
+            ErrorKind::NotFound | ErrorKind::NotADirectory => Obstacle::Missing,
+            ErrorKind::PermissionDenied => Obstacle::Forbidden,
+            ErrorKind::IsADirectory => Obstacle::Directory,
+            _ if error.raw_os_error() == Some(NOT_OPEN) => Obstacle::NotOpen,
+            _ => Obstacle::Other,
         };
-        Failure { cause, is_file }
+        Failure { obstacle, is_file }
     }
 }
 
@@ -139,12 +139,15 @@ impl fmt::Display for Failure {
         } else {
             "standard input"
         };
-        match self.cause {
-            Cause::Missing => f.write_str("there is no such file"),
-            Cause::Forbidden => write!(f, "there is no permission to read {input}"),
-            Cause::Directory => write!(f, "{input} is a directory"),
-            Cause::NotOpen => write!(f, "{input} is closed, or open for writing alone"),
-            Cause::Other => write!(f, "{input} could not be read to its end"),
+        match self.obstacle {
+            Obstacle::Missing => f.write_str("there is no such file"),
+            Obstacle::Forbidden => write!(f, "there is no permission to read {input}"),
+            Obstacle::Directory => write!(f, "{input} is a directory"),
+            Obstacle::NotOpen => write!(f, "{input} is closed, or open for writing alone"),
+            Obstacle::Other if self.is_file => {
+                f.write_str("the file could not be opened, or not be read to its end")
+            }
+            Obstacle::Other => f.write_str("standard input could not be read to its end"),
         }
     }
 }

@@ -12,6 +12,8 @@ use zy_search::MOST_THREADS;
 #[derive(Clone, Copy)]
 struct Counted {
     flag: &'static str,
+    /// The least number that it takes.
+    least: u64,
     /// The greatest number that it takes.
     most: u64,
 }
@@ -20,26 +22,32 @@ struct Counted {
 const COUNTED: [Counted; 6] = [
     Counted {
         flag: "--from",
+        least: 0,
         most: MAX_CHOICES as u64,
     },
     Counted {
         flag: "--gap",
+        least: 1,
         most: 64,
     },
     Counted {
         flag: "--states",
+        least: 1,
         most: 4_294_967_295,
     },
     Counted {
         flag: "--threads",
+        least: 1,
         most: MOST_THREADS as u64,
     },
     Counted {
         flag: "--every",
+        least: 1,
         most: MAX_EVERY as u64,
     },
     Counted {
         flag: "--ring",
+        least: 1,
         most: MAX_RING as u64,
     },
 ];
@@ -105,8 +113,8 @@ impl<'a> NoNumber<'a> {
                 Some((flag, value)) => (flag, value),
                 None => (word.as_str(), words.get(index + 1)?.as_str()),
             };
-            for counted in COUNTED {
-                if flag == counted.flag && !is_whole(value.as_bytes()) {
+            if let Some(counted) = counted_of(flag) {
+                if !is_whole(value.as_bytes()) {
                     return Some(NoNumber { counted, value });
                 }
             }
@@ -114,7 +122,7 @@ impl<'a> NoNumber<'a> {
         None
     }
 
-    /// The number that was meant, where the flag takes it.
+    /// The number that was meant, where the flag takes it and it is not 0.
     fn meant(self) -> Option<u64> {
         let number = spelled(self.value.as_bytes())?;
         if (1..=self.counted.most).contains(&number) {
@@ -123,6 +131,11 @@ impl<'a> NoNumber<'a> {
             None
         }
     }
+}
+
+/// The flag of this name, if it takes a number.
+fn counted_of(flag: &str) -> Option<Counted> {
+    COUNTED.into_iter().find(|counted| counted.flag == flag)
 }
 
 /// Whether a word is digits alone.
@@ -180,10 +193,10 @@ impl fmt::Display for Hint<'_> {
 
 impl fmt::Display for NoNumber<'_> {
     fn fmt<W: fmt::Write>(&self, f: &mut fmt::Formatter<W>) -> fmt::Result {
-        let Counted { flag, most } = self.counted;
+        let Counted { flag, least, most } = self.counted;
         match self.meant() {
             Some(number) => write!(f, "{flag} takes a whole number: {number}"),
-            None => write!(f, "{flag} takes a whole number from 1 to {most}"),
+            None => write!(f, "{flag} takes a whole number from {least} to {most}"),
         }
     }
 }

@@ -17,7 +17,6 @@ mod hint;
 mod keeping;
 mod listing;
 mod marked;
-mod names;
 mod nothing;
 mod ordering;
 mod origin;

@@ -56,6 +56,7 @@ impl<'a> Summary<'a> {
     /// Writes that the search gave up, and which schedules it has ruled out.
     fn write_spent<W: fmt::Write>(self, f: &mut fmt::Formatter<W>, fewer: usize) -> fmt::Result {
         let states = Count::of(self.report.states, "state");
+        let is_unjudged = fewer == 0;
         let fewer = Count::of(fewer, "choice");
         let left_out = self.left_out();
         write!(f, "gave up after {states}: ")?;
@@ -63,9 +64,14 @@ impl<'a> Summary<'a> {
             write!(
                 f,
                 "it holds after every schedule of fewer than {fewer}{left_out}"
-            )
+            )?;
         } else {
-            write!(f, "no schedule of fewer than {fewer} shows it{left_out}")
+            write!(f, "no schedule of fewer than {fewer} shows it{left_out}")?;
+        }
+        if is_unjudged {
+            f.write_str("; stuck, deadlock and then are judged after at most 4095 choices")
+        } else {
+            Ok(())
         }
     }
 }

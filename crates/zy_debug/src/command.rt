@@ -1,4 +1,4 @@
-//! Commands, replies and refusals.
+//! Commands, replies, and why a command is rejected.
 ghost use Rattle.std.specs.Prelude.{◌≡◌};
 
 use std::alloc::AllocError;

@@ -102,7 +102,7 @@ impl Debugger {
         &self.machine
     }
 
-    /// Does a command. After a refusal position and stops are what they were.
+    /// Does a command. Where it is rejected, and out of memory, position and stops are what they were.
     pub fn command(&mut self, command: Command) -> Result<Reply, DebugFault>
         ensures { Obeys (refusal self.old command) (Does self.old command) self.old self.new result }
     {

@@ -18,7 +18,7 @@ const STOPS: [&'static str; 3] = ["page", "mode", "abort"];
 
 /// What a command takes.
 #[derive(Clone, Copy)]
-enum Form {
+enum Takes {
     /// Nothing.
     Lone,
     /// A number, which is written as this letter.
@@ -29,17 +29,17 @@ enum Form {
     Node,
 }
 
-impl Form {
+impl Takes {
     /// What the command takes that begins with a word.
-    fn of(word: &[u8]) -> Option<Form> {
+    fn of(word: &[u8]) -> Option<Takes> {
         if is_lone(word) {
-            Some(Form::Lone)
+            Some(Takes::Lone)
         } else if is(word, b"break") {
-            Some(Form::Break)
+            Some(Takes::Break)
         } else if is(word, b"node") {
-            Some(Form::Node)
+            Some(Takes::Node)
         } else {
-            Some(Form::Number(letter_of(word)?))
+            Some(Takes::Number(letter_of(word)?))
         }
     }
 }
@@ -137,12 +137,12 @@ fn tell_bad_number<W: fmt::Write>(f: &mut fmt::Formatter<W>, word: &[u8]) -> fmt
 impl fmt::Display for BadCommand<'_> {
     fn fmt<W: fmt::Write>(&self, f: &mut fmt::Formatter<W>) -> fmt::Result {
         let word = self.line.text(0);
-        match Form::of(word) {
+        match Takes::of(word) {
             None => self.tell_unknown(f),
-            Some(Form::Break) => self.tell_break(f),
-            Some(Form::Node) => f.write_str("it is node A or node B"),
-            Some(Form::Lone) => write!(f, "nothing comes behind {}", Quoted(word)),
-            Some(Form::Number(letter)) => self.tell_number(f, Bytes(word), letter, 1),
+            Some(Takes::Break) => self.tell_break(f),
+            Some(Takes::Node) => f.write_str("it is node A or node B"),
+            Some(Takes::Lone) => write!(f, "nothing comes behind {}", Quoted(word)),
+            Some(Takes::Number(letter)) => self.tell_number(f, Bytes(word), letter, 1),
         }
     }
 }

@@ -78,8 +78,8 @@ impl<'a> Form<'a> {
     pub fn has_value_at(self, at: usize) -> bool {
         let is_second = at == self.at.saturating_add(2);
         match self.shape {
-            Shape::Number | Shape::Jump => true,
-            Shape::Row => is_second,
+            Shape::Jump => true,
+            Shape::Number | Shape::Row => is_second,
             Shape::Pair if is(self.first, b"add") => true,
             Shape::Pair => is_second && (is(self.first, b"write") || is(self.first, b"insert")),
             _ => false,

@@ -3,7 +3,7 @@
 use crate::command::{CommandName, ForText};
 use std::fmt;
 use zy_image::{ImageRefusal, LoadFault};
-use zy_isa::Version;
+use zy_isa::{Operation, PairOperation, Version};
 
 /// How many bytes show whether an input is a text.
 const FRONT: usize = 16;
@@ -49,7 +49,7 @@ impl<'a> ImageAdvice<'a> {
         let opcode = self.input.get(self.refusal.at).copied();
         matches!(self.refusal.fault, LoadFault::Word(_, _))
             && self.input.starts_with(&Version::One.magic())
-            && opcode == Some(8)
+            && opcode == Some(Operation::Pair(PairOperation::Sum).opcode())
     }
 }
 

@@ -13,10 +13,12 @@ fn is_gap(byte: &u8) -> bool {
     is_space(*byte)
 }
 
-/// A line of an input, without its end, and its number, from 1.
+/// A line of an input.
 #[derive(Clone, Copy)]
 pub struct SourceLine<'a> {
+    /// Its number, from 1.
     pub number: usize,
+    /// Its bytes, without its end.
     pub bytes: &'a [u8],
 }
 
@@ -62,16 +64,19 @@ fn first_line(text: &[u8]) -> (&[u8], &[u8]) {
     }
 }
 
-/// A word of a line, and how many bytes come before it.
+/// A word of a line.
 #[derive(Clone, Copy)]
 pub struct SourceWord<'a> {
+    /// How many bytes of the line come before it.
     pub start: usize,
+    /// Its bytes.
     pub bytes: &'a [u8],
 }
 
 /// A line without its comment.
 #[derive(Clone, Copy)]
 pub struct Statement<'a> {
+    /// Its bytes.
     pub bytes: &'a [u8],
 }
 

@@ -15,18 +15,31 @@ pub enum Meant<'a> {
 impl<'a> Meant<'a> {
     /// Which of these words is meant, if any is.
     pub fn of(word: &[u8], known: &[&'a str]) -> Option<Meant<'a>> {
-        for name in known {
-            if word.eq_ignore_ascii_case(name.as_bytes()) {
-                return Some(Meant::Small(name));
-            }
+        match in_small_letters(word, known) {
+            Some(name) => Some(Meant::Small(name)),
+            None => near(word, known).map(Meant::Near),
         }
-        for name in known {
-            if is_near(word, name.as_bytes()) {
-                return Some(Meant::Near(name));
-            }
-        }
-        None
     }
+}
+
+/// The first of these words that is this one but for capital letters.
+fn in_small_letters<'a>(word: &[u8], known: &[&'a str]) -> Option<&'a str> {
+    for name in known {
+        if word.eq_ignore_ascii_case(name.as_bytes()) {
+            return Some(*name);
+        }
+    }
+    None
+}
+
+/// The first of these words from which this one differs by one mistake.
+fn near<'a>(word: &[u8], known: &[&'a str]) -> Option<&'a str> {
+    for name in known {
+        if is_near(word, name.as_bytes()) {
+            return Some(*name);
+        }
+    }
+    None
 }
 
 impl fmt::Display for Meant<'_> {

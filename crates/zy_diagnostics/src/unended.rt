@@ -19,10 +19,19 @@ fn is_end(line: &[u8]) -> bool {
 impl TextAdvice<'_> {
     /// Whether the rejected line is one of a log, and no line of the input is `end`.
     pub(crate) fn is_unended(&self) -> bool {
-        let is_of_words = matches!(self.reason, Reason::WordCount | Reason::NotKnown(_));
-        let is_of_log = self.statement.has(b"->") || self.statement.has(b"!");
+        let is_of_words = matches!(
+            self.reason,
+            Reason::WordCount | Reason::NotKnown(_) | Reason::NotAName(_)
+        );
         let mut lines = self.input.split(is_line_feed);
-        self.command == CommandName::Order && is_of_words && is_of_log && !lines.any(is_end)
+        self.command == CommandName::Order && is_of_words && self.is_of_log() && !lines.any(is_end)
+    }
+
+    /// Whether the rejected line has an outcome, a message or a gap, or looks like an object.
+    fn is_of_log(&self) -> bool {
+        let line = self.statement;
+        let has_of_log = line.has(b"->") || line.has(b"!") || is(line.text(1), b"...");
+        has_of_log || line.text(0).starts_with(b"{")
     }
 
     /// Says that the line `end` is missing above the logs.

@@ -1,4 +1,4 @@
-//! Why a run was rejected.
+//! Why an engine gave up.
 ghost use Rattle.std.specs.Prelude.{◌≡◌};
 ghost use Rattle.zy_engine.specs.Faults.{of_image_refusal, of_reading, of_refusal, of_writing, status_of};
 

@@ -1,4 +1,4 @@
-//! What each command of the program does, as functions from bytes to bytes, and why one gives up.
+//! What each command of the program but `order` does, as functions from bytes to bytes, and why one gives up.
 #![tactic(auto)]
 
 pub mod checking;

@@ -34,7 +34,7 @@ pub struct SearchOptions {
     pub wording: Wording,
     /// How many of the scenario's choices are steps already taken; all, where it is none or more than there are.
     pub from: Option<usize>,
-    /// The most states that may be reached.
+    /// The most states that are kept, that of the start included. The one that is found is none of them.
     pub most: u32,
     /// How many threads look ahead. What comes of the search does not depend on it.
     pub threads: u32,

@@ -19,10 +19,10 @@ pub enum Wording {
 
 /// What a line of a scenario text is.
 #[derive(Clone, Copy)]
-enum Kind<'a> {
+enum LineKind<'a> {
     /// The head of a program: the name of its transaction, empty where it has its number alone.
     Head(&'a [u8]),
-    /// A choice, which is made so often.
+    /// A choice, and how often it is made.
     Choice(usize),
     /// The end.
     End,
@@ -38,20 +38,20 @@ fn times(words: &[&[u8]]) -> usize {
     }
 }
 
-impl<'a> Kind<'a> {
+impl<'a> LineKind<'a> {
     /// What a line is, by its words.
-    fn of(line: &'a [u8]) -> Kind<'a> {
+    fn of(line: &'a [u8]) -> LineKind<'a> {
         if line.is_empty() {
-            return Kind::Other;
+            return LineKind::Other;
         }
         let mut words = Words::new();
         take_line(&mut words, line);
         match words.as_slice() {
-            [b"txn", name, ..] if is_name(name) => Kind::Head(name),
-            [b"txn", ..] => Kind::Head(&[]),
-            [b"A" | b"B" | b"C", ..] => Kind::Choice(times(words.as_slice())),
-            [b"end"] => Kind::End,
-            _ => Kind::Other,
+            [b"txn", name, ..] if is_name(name) => LineKind::Head(name),
+            [b"txn", ..] => LineKind::Head(&[]),
+            [b"A" | b"B" | b"C", ..] => LineKind::Choice(times(words.as_slice())),
+            [b"end"] => LineKind::End,
+            _ => LineKind::Other,
         }
     }
 }
@@ -79,8 +79,8 @@ impl<'a> Parts<'a> {
             names: Vec::new(alloc),
         };
         for line in text.split(|byte| *byte == b'\n') {
-            let kind = Kind::of(line);
-            if matches!(kind, Kind::End) {
+            let kind = LineKind::of(line);
+            if matches!(kind, LineKind::End) {
                 break;
             }
             parts.add(kind, line.len().saturating_add(1), kept)?;
@@ -89,12 +89,12 @@ impl<'a> Parts<'a> {
     }
 
     /// Goes on over a line of this length.
-    fn add(&mut self, kind: Kind<'a>, len: usize, kept: usize) -> Result<(), AllocError> {
+    fn add(&mut self, kind: LineKind<'a>, len: usize, kept: usize) -> Result<(), AllocError> {
         let is_whole = self.above == self.body;
         self.body = self.body.saturating_add(len);
         let count = match kind {
-            Kind::Choice(count) => count,
-            Kind::Head(name) => {
+            LineKind::Choice(count) => count,
+            LineKind::Head(name) => {
                 self.names.push(name)?;
                 0
             }
@@ -137,8 +137,9 @@ impl<'a> Parts<'a> {
     }
 }
 
-/// The text of a scenario with these choices in place of its own, of which the first `kept` are its own: they stay as
-/// they are written there, and so does all that is not a choice.
+/// The text of a scenario with these choices in place of its own, of which the first `kept` are its own. All above the
+/// first line whose choices do not all stay is as it is written there, and so is all from the line `end` on; the lines
+/// between, comments too, go. Each choice that is left gets a line.
 pub(crate) fn reworded(
     alloc: Global,
     text: &[u8],

@@ -38,12 +38,12 @@ pub struct Query {
     pub then: Option<OutcomePattern>,
 }
 
-/// What was expected after an expression, where another word is at hand.
-fn expected_after(at: GoalCursor<'_>) -> ExpectedInGoal {
+/// What was expected after an expression, where another word is at hand: this, unless that word is a bracket.
+fn expected_after(at: GoalCursor<'_>, expected: ExpectedInGoal) -> ExpectedInGoal {
     if at.is_at(b")") {
         ExpectedInGoal::OpenBracket
     } else {
-        ExpectedInGoal::Operator
+        expected
     }
 }
 
@@ -70,7 +70,7 @@ fn ending(at: GoalCursor<'_>) -> Result<Option<OutcomePattern>, WordFault>
         let outcome = last_outcome(at.next())?;
         Ok(Some(outcome))
     } else {
-        Err(at.refuses(expected_after(at)))
+        Err(at.refuses(expected_after(at, ExpectedInGoal::Operator)))
     }
 }
 
@@ -121,7 +121,7 @@ fn asked_never(alloc: Global, part: Prefix<'_>) -> Result<Query, GoalFault>
     } else if at.is_at(b"then") {
         Err(GoalFault::Refused(at.refuses(ExpectedInGoal::NoThen)))
     } else {
-        Err(GoalFault::Refused(at.refuses(expected_after(at))))
+        Err(GoalFault::Refused(at.refuses(expected_after(at, ExpectedInGoal::OperatorAlone))))
     }
 }
 

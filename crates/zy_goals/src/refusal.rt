@@ -9,6 +9,8 @@ pub enum ExpectedInGoal {
     Fact,
     /// What may follow a fact or a closing bracket.
     Operator,
+    /// The same where no outcome may follow.
+    OperatorAlone,
     /// The word is a bracket that closes none.
     OpenBracket,
     /// A bracket is open at the end.
@@ -48,6 +50,7 @@ impl fmt::Display for ExpectedInGoal {
                 "duplicate, frozen, nopage and gone"
             ),
             ExpectedInGoal::Operator => "after a fact comes and, or, then, ) or the end",
+            ExpectedInGoal::OperatorAlone => "after a fact comes and, or, ) or the end",
             ExpectedInGoal::OpenBracket => "this ) closes no bracket",
             ExpectedInGoal::ClosingBracket => "a ( is not closed",
             ExpectedInGoal::Node => "a node is A or B",

@@ -1,5 +1,5 @@
 //! The rows of a run as one table.
-ghost use Rattle.std.specs.Prelude.{◌≡◌, ◌+◌, ◌++◌, ◌<◌, ◌≤◌, [], OnOk, OnErr, length, slice_index_or, true};
+ghost use Rattle.std.specs.Prelude.{◌≡◌, ◌+◌, ◌++◌, ◌≤◌, [], OnOk, OnErr, length, true};
 ghost use Rattle.std.specs.Prelude.{vec_capacity, vec_len};
 ghost use Rattle.zy_isa.specs.Rows.{Rising, RowsFit, get_row};
 ghost use Rattle.zy_table.specs.Rows.{put_rows};
@@ -47,14 +47,6 @@ impl Table {
         ensures { result ≡ length self.now }
     {
         self.rows.len()
-    }
-
-    /// The row at index `i`.
-    pub fn row_at(&self, i: usize) -> Row
-        requires { i < length self.now }
-        ensures { result ≡ slice_index_or self.now i result }
-    {
-        self.rows[i]
     }
 
     /// The rows, in key order.

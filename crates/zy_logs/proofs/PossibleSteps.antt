@@ -42,9 +42,9 @@ use Rattle.zy_logs.specs.declared.told.Told.TheVariants as told
 use Rattle.zy_logs.specs.Agrees.{TellsReason, Tells}
 use Rattle.zy_logs.specs.Possible.{is_kill, is_run, can_abort, can_give}
 
--- ---- what is told in full
+-- ---- what a line gives in full
 
--- why a transaction was aborted, told in full
+-- why a transaction was aborted, in full
 abbrev reason_of : Why → LoggedReason
 reason_of why.Own = reason.Own
 reason_of why.Killed = reason.Killed
@@ -55,7 +55,7 @@ reason_of (why.Frozen p) = reason.Frozen (Some p)
 reason_of why.NoPage = reason.NoPage
 reason_of (why.Gone p) = reason.Gone (Some p)
 
--- an outcome, told in full
+-- an outcome, in full
 abbrev in_full : Outcome → Told
 in_full outcome.Started = told.Started
 in_full outcome.BadMode = told.BadMode
@@ -90,7 +90,7 @@ in_full outcome.NoPush = told.NoPush
 abbrev Gives : Choice → Outcome → Type 0
 Gives c o = can_give c (in_full o) ≡ true
 
--- ---- what is told of it, as far as it is told
+-- ---- what a line gives of it, as far as it does
 
 -- the same outcome
 same : (c : Choice) {o p : Outcome} → o ≡ p → Gives c o → Gives c p

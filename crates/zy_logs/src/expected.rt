@@ -53,7 +53,7 @@ pub enum ExpectedInLog {
     End,
     /// The end of the line, after a gap.
     EndOfGap,
-    /// No line: there are as many choices as there may be.
+    /// No line that counts for as many choices as this one: there would be more of them than there may be.
     FewerLines,
 }
 

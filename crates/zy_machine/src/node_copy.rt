@@ -1,4 +1,5 @@
-//! How a node becomes a copy of another one: only parts that differ are copied.
+//! How a node becomes a copy of another one: the wireframe and the messages are copied where they differ, and all else goes
+//! into the room that it has.
 ghost use Rattle.std.specs.Prelude.{◌≡◌, ℕ, IfOk};
 ghost use Rattle.zy_node.specs.Nodes.{node_shown, limits_of, IsLimited};
 ghost use Rattle.zy_machine.specs.NodeCopies.{AreChangedParts, IsChangedMail, IsChangedWire, mail_after, wire_after};

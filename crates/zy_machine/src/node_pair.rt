@@ -48,8 +48,8 @@ impl NodePair {
         Ok(NodePair { alloc, a, b, book })
     }
 
-    /// Becomes a copy of another state. Out of memory, nothing changes. A part that is the same is not copied, and one that
-    /// has room for the other's goes into it.
+    /// Becomes a copy of another state. Out of memory, nothing changes. A wireframe and messages that are the same are not
+    /// copied, and all else goes into the room that is there, as far as it suffices.
     pub(crate) fn set_to(&mut self, other: &NodePair) -> Result<(), AllocError>
         ensures ok { OnOk result (state_of self.new ≡ state_of other.now) }
         ensures err { OnErr result (state_of self.new ≡ state_of self.old) }

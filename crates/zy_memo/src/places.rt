@@ -25,10 +25,15 @@ pub enum Scope {
 /// What a choice reads of the numbers of a state: those at four places, and one beside them.
 #[derive(Clone, Copy, PartialEq, Eq)]
 pub struct Read {
+    /// What it reads beside: the modes, the lowest active transaction, the scope of a run, or 0.
     pub beside: u32,
+    /// The number at the first of its places.
     pub first: u32,
+    /// The number at the second one.
     pub second: u32,
+    /// The number at the third one.
     pub third: u32,
+    /// The number at the fourth one.
     pub fourth: u32,
 }
 

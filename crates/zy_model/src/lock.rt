@@ -12,7 +12,10 @@ pub enum LockKind {
 /// A transaction's lock on a page.
 #[derive(Clone, Copy, PartialEq, Eq)]
 pub struct Lock {
+    /// The number of the page.
     pub page: u16,
+    /// The number of the transaction.
     pub txn: u8,
+    /// Whether it is shared or exclusive.
     pub kind: LockKind,
 }

@@ -20,7 +20,7 @@ pub(crate) enum Followed {
     Spent,
 }
 
-/// Takes the place of the next path to follow, which is then no longer to do.
+/// Takes the place of the next path to follow out of those to do.
 fn next_of(reached: &mut Reached) -> Option<u32>
     ensures paths { reached.new.visited ≡ reached.old.visited }
     ensures reached { (p : APlan) → IsReached p reached.old → IsReached p reached.new }

@@ -56,8 +56,9 @@ impl Search {
         self.leads_to_twin(plan, at)
     }
 
-    /// A number under which no path is put, where none of the paths that are put under the digest of the twin's state
-    /// and these cursors, or one of the next few numbers, leads there; none where one does.
+    /// The number to put a path to the twin's state and these cursors under: of their digest and the next few numbers the
+    /// first without a path, or the digest, whose path the new one replaces, where each has one. None where one of those
+    /// paths leads there.
     fn free_under(&mut self, plan: &Plan, cursors: Cursors) -> Result<Option<u64>, Fault>
         requires { IsSearch plan.now self.old }
         ensures known { IfOk result (λ free. free ≡ None → IsKnown plan.now.start self.old.reached cursors

@@ -25,7 +25,7 @@ pub enum BelowFault {
 /// Why the engine gave up. Its text names the fault, and says what is wrong.
 #[derive(Clone, Copy)]
 pub enum OrderFault {
-    /// The scenario is refused, a call failed, or there was no memory.
+    /// The scenario is rejected, a call failed, or there was no memory.
     Bench(BenchFault),
     /// A line below the scenario is none of a log, or is one too many. The number is that of the line of the whole input.
     Log(LogLineFault),

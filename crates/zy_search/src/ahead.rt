@@ -30,15 +30,20 @@ pub enum Successor {
 /// What is known of where each choice leads from the state at a place.
 #[derive(Drop)]
 pub struct Successors {
+    /// The place of the state.
     pub place: u32,
+    /// What is known of where each of the choices that are considered leads, in their order.
     pub by_choice: Vec<Successor>,
 }
 
 /// The successors of the states at some places one behind the other, and the numbers of those that were not found, each once.
 #[derive(Drop)]
 pub struct Ahead {
+    /// The place of the first state.
     first: u32,
+    /// The successors of each state, in the order of their places.
     pub found: Vec<Successors>,
+    /// The numbers of the successors that were not found.
     pub numbers: Vectors,
     /// How many of these states were taken in: the first ones.
     pub taken: usize,

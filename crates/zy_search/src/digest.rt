@@ -3,8 +3,8 @@
 use zy_isa::{Node, Row};
 use zy_links::Message;
 use zy_machine::{Machine, StatePart};
-use zy_model::{Kind, LockKind, NodeMode};
-use zy_table::{Place, Status, Why};
+use zy_model::{Kind, Lock, LockKind, NodeMode};
+use zy_table::{CommitRecord, Place, Status, Why};
 use zy_txns::Txn;
 
 /// A digest with a number more.
@@ -15,25 +15,46 @@ fn mixed(digest: u64, number: u64) -> u64 {
 /// A number that is the same for states that are alike in this part, and differs for most others. Nothing is promised of
 /// it: a bad one costs time alone.
 pub fn digest(part: StatePart, machine: &Machine) -> u64 {
-    let mut digest = mixed(
+    let modes = mixed(
         mode_number(machine.mode(Node::A)),
         mode_number(machine.mode(Node::B)),
     );
+    let txns = mixed_txns(mixed_pages(modes, machine), part, machine);
+    let commits = mixed_commits(txns, machine.commits());
+    mixed_node(mixed_node(commits, machine, Node::A), machine, Node::B)
+}
+
+/// With where each page is, and its rows.
+fn mixed_pages(digest: u64, machine: &Machine) -> u64 {
+    let mut digest = digest;
     for p in 0..machine.page_count() {
         if let Some((place, page)) = machine.located(p) {
             digest = mixed(mixed(digest, place_number(place)), u64::from(page.low()));
             digest = mixed_rows(digest, page.rows());
         }
     }
+    digest
+}
+
+/// With what counts of each transaction.
+fn mixed_txns(digest: u64, part: StatePart, machine: &Machine) -> u64 {
+    let mut digest = digest;
     for t in 0..machine.txn_count() {
         digest = mixed_txn(digest, part, machine.txn(t as u8));
     }
-    for commit in machine.commits() {
-        digest = mixed(mixed(digest, u64::from(commit.txn)), u64::from(commit.done));
-    }
-    mixed_node(mixed_node(digest, machine, Node::A), machine, Node::B)
+    digest
 }
 
+/// With the commits, in their order.
+fn mixed_commits(digest: u64, commits: &[CommitRecord]) -> u64 {
+    let mut digest = digest;
+    for commit in commits {
+        digest = mixed(mixed(digest, u64::from(commit.txn)), u64::from(commit.done));
+    }
+    digest
+}
+
+/// With rows, and how many they are.
 fn mixed_rows(digest: u64, rows: &[Row]) -> u64 {
     let mut digest = mixed(digest, rows.len() as u64);
     for row in rows {
@@ -78,21 +99,25 @@ fn mixed_why(digest: u64, why: Why) -> u64 {
 
 /// With what a node has sent, and its locks.
 fn mixed_node(digest: u64, machine: &Machine, n: Node) -> u64 {
+    mixed_locks(mixed_link(digest, machine, n), machine.locks(n))
+}
+
+/// With the messages that a node has sent, and how many they are.
+fn mixed_link(digest: u64, machine: &Machine, n: Node) -> u64 {
     let link = machine.link(n);
     let mut digest = mixed(digest, link.len() as u64);
     for i in 0..link.len() {
         digest = mixed_message(digest, link.message_at(i));
     }
-    for lock in machine.locks(n) {
+    digest
+}
+
+/// With locks.
+fn mixed_locks(digest: u64, locks: &[Lock]) -> u64 {
+    let mut digest = digest;
+    for lock in locks {
         digest = mixed(mixed(digest, u64::from(lock.page)), u64::from(lock.txn));
-        digest = mixed(
-            digest,
-            if matches!(lock.kind, LockKind::Shared) {
-                1
-            } else {
-                2
-            },
-        );
+        digest = mixed(digest, lock_number(lock.kind));
     }
     digest
 }
@@ -117,6 +142,13 @@ fn mode_number(mode: NodeMode) -> u64 {
         NodeMode::DInit => 6,
         NodeMode::DDual => 7,
         NodeMode::DFinish => 8,
+    }
+}
+
+fn lock_number(kind: LockKind) -> u64 {
+    match kind {
+        LockKind::Shared => 1,
+        LockKind::Exclusive => 2,
     }
 }
 

@@ -260,7 +260,7 @@ fn plan_from(
 }
 
 /// Looks for a state that choices lead to from a machine's, and that shows what is looked for. It goes breadth first,
-/// so that no fewer choices lead there, and stops where it would reach more states than its limits allow. Where an outcome
+/// so that no fewer choices lead there, and stops where it would keep more states than its limits allow. Where an outcome
 /// is asked for, what is found ends with one choice more, which has it. The watch learns how far it is.
 pub fn search<R: Threads + Sync, W: Watch>(
     rt: &R,

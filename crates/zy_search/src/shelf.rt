@@ -12,13 +12,6 @@ use std::alloc::Global;
 use std::mem;
 use zy_machine::{Fault, Machine, StatePart};
 
-/// How many pages the machines of a shelf may have together.
-const MOST_PAGES: usize = 8192;
-
-/// How many steps a machine of a shelf may have made, where there may be many machines: a longer history would take
-/// more than the rest of it.
-const MOST_STEPS: usize = 1024;
-
 /// A machine, and the place of the path that leads to its state; none where that is not known.
 #[derive(Drop)]
 pub struct Spot {
@@ -36,15 +29,6 @@ pub struct Shelf {
 }
 
 impl Shelf {
-    /// No machine but the scratch machine. There may be fewer where the scenario has more pages.
-    pub fn new(alloc: Global, start: &Machine) -> Result<Shelf, Fault>
-        ensures spots { IfOk result (λ s. s.spots.items ≡ []) }
-        ensures spare { IfOk result (λ s. s.spare ≡ start.now) }
-    {
-        let pages = usize::from(start.scenario().pages()).max(8);
-        Shelf::sized(alloc, start, MOST_PAGES / pages, MOST_STEPS)
-    }
-
     /// No machine but the scratch machine, with room for `most` machines, each of which may have made `steps` steps.
     pub fn sized(alloc: Global, start: &Machine, most: usize, steps: usize) -> Result<Shelf, Fault>
         ensures spots { IfOk result (λ s. s.spots.items ≡ []) }
@@ -153,22 +137,6 @@ impl Shelf {
                 machine.discard();
                 Err(fault)
             }
-        }
-    }
-
-    /// Gives back the machine of the path at a place, for another one of the scenario, if the spot from which it was
-    /// taken is still free.
-    pub fn give_back(&mut self, at: u32, machine: &mut Machine)
-        ensures scenario { (h : History) (ps : List (List Choice)) → IsShelf h ps self.old
-            → machine.old.scenario ≡ h.scenario → machine.new.scenario ≡ h.scenario }
-        ensures shelf { (h : History) (ps : List (List Choice)) → IsShelf h ps self.old → at < length ps
-            → IsHere h ps at machine.old → IsShelf h ps self.new }
-    {
-        let i = self.spot_of(at);
-        if i < self.spots.len() && self.spots[i].at.is_none() {
-            let spot = &mut self.spots[i];
-            mem::swap(&mut spot.machine, machine);
-            spot.at = Some(at);
         }
     }
 }

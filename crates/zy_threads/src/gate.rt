@@ -4,7 +4,7 @@ use zy_table::Entry;
 
 /// What a worker calls before each step. Whether it returns is its own affair: the others do not wait for it.
 pub trait Gate {
-    /// Called by a worker that holds no lock, before its `k`-th step (from 1), with the entry of its step before.
+    /// Called by a worker that holds no lock, before its `k`-th step (from 1), with the entry of its step before, none before the first.
     fn before(&self, actor: Actor, k: usize, last: Option<&Entry>);
 }
 

@@ -10,7 +10,9 @@ use zy_search::ChoiceKinds;
 /// A task, and the input that it is for.
 #[derive(Clone, Copy)]
 pub struct Request<'a> {
+    /// The command that the first word names.
     pub command: CommandName,
+    /// What it is to do.
     pub task: Task<'a>,
     /// The file that is read; standard input where there is none.
     pub file: Option<&'a str>,
@@ -243,7 +245,7 @@ fn checkpoints_of(debug: &ArgMatches<'_>) -> Checkpoints {
     }
 }
 
-/// What the input of `run`, `trace` or `threads` is written in.
+/// What the input is written in: with `--image` an image, else a text.
 fn format_of(words: &ArgMatches<'_>) -> Format {
     if words.get_flag("image") {
         Format::Image

@@ -144,7 +144,7 @@ impl<'a> GoalCursor<'a> {
         is(self.word(), word)
     }
 
-    /// The refusal of the word, with what was expected in its place.
+    /// Why the word is rejected: what was expected in its place.
     pub fn refuses(self, expected: ExpectedInGoal) -> WordFault
         ensures { result.expected ≡ expected }
     {

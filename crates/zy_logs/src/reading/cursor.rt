@@ -72,7 +72,7 @@ impl<'a> LogCursor<'a> {
         self.is_end() || self.is_at(b"!")
     }
 
-    /// The refusal of the word, with what may stand in its place.
+    /// Why the word is rejected: what may stand in its place.
     pub fn refuses(self, expected: ExpectedInLog) -> Misfit
         ensures { result ≡ spec.stop expected (left self.entry) }
     {

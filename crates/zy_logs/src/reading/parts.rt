@@ -14,7 +14,7 @@ use zy_isa::Node;
 use zy_text::names::{is_name, is_numeral};
 use zy_text::numbers::number_of;
 
-/// The greatest number of a page, and the greatest key.
+/// The greatest key, and the greatest number of a page that a line can name.
 const MAX_PAGE: u64 = 65535;
 
 /// The greatest place in commit order.
