@@ -32,7 +32,7 @@ complete -c zview -l fold -x -a 'yes no' -d 'Whether like steps share a row'
 complete -c zview -l find -x -d 'Mark the states that meet a goal'
 complete -c zview -l help -s h -d 'Print help'
 
-complete -c zdb -l help -d 'Print help'
+complete -c zdb -l help -s h -d 'Print help'
 
 complete -c zplay -l port -x -d 'The port'
 complete -c zplay -l no-open -d 'Open no browser'

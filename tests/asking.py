@@ -12,22 +12,27 @@ ASKED = os.path.join(TOP, 'tests', 'asked')
 REPORTS = {
     (False, 'found'): r'zy_bench: found after {0}: {1} {2} there{4}\n',
     (False, 'none'): r'zy_bench: none of {0} shows it{3}, and there are no others: each takes at most {1}\n',
-    (False, 'spent'): r'zy_bench: gave up after {0}: no schedule of fewer than {1} shows it{3}\n',
+    (False, 'spent'): r'zy_bench: gave up after {0}: no schedule of fewer than {1} shows it{3}{5}\n',
     (True, 'found'): r'zy_bench: it does not always hold: found after {0}: {1} {2} there{4}\n',
     (True, 'none'): r'zy_bench: it holds in each of {0}{3}, and there are no others: each takes at most {1}\n',
-    (True, 'spent'): r'zy_bench: gave up after {0}: it holds after every schedule of fewer than {1}{3}\n',
+    (True, 'spent'): r'zy_bench: gave up after {0}: it holds after every schedule of fewer than {1}{3}{5}\n',
 }
 PLURALS = {'start': 'starts', 'begin': 'begins', 'kill': 'kills', 'run': 'runs', 'take': 'takes', 'finish': 'finishes', 'push': 'pushes'}
-STATUS = {'found': 0, 'none': 4, 'spent': 6}
+# What a search adds that has begun behind 4096 choices, where its goal is not judged.
+UNJUDGED = '; stuck, deadlock and then are judged after at most 4095 choices'
 
-# What precedes the report where a goal names a transaction, and where it names a page, that the scenario does not have.
-WARNING = 'zy_bench: the goal names %s %d, and the scenario has only those below %d\n'
+STATUS = {'found': 0, 'none': 4, 'spent': 6}
 
 # What a terminal gets while a search goes on: lines that are written over, the last of which is taken away.
 PROGRESS = r'(\r\d+ states, \d+ choices deep, \d+ states a second\x1b\[K)+\r\x1b\[K'
 
 # How the line begins that names the order of a run whose rows are not those of the commit order (tests/orders has which order it is).
 EXPLAINED = 'zy_bench: the rows are those of '
+
+
+def warning(word, number, count):
+    """What precedes the report where a goal names a transaction, or a page, that the scenario does not have."""
+    return 'zy_bench: the goal names %s %d, and the scenario has %s\n' % (word, number, 'only those below %d' % count if count else 'none')
 
 
 def counted(number, word):
@@ -50,7 +55,7 @@ def report(verdict, states, length, words, always=False):
     """The line in which a search with some words says what came of it, as a pattern."""
     out = left_out(words)
     return REPORTS[always, verdict].format(counted(states, 'state'), counted(length, 'choice'), 'leads' if str(length) == '1' else 'lead',
-                                           not_considered(out), not_considered(out) if set(out) - {'kill'} else '')
+                                           not_considered(out), not_considered(out) if set(out) - {'kill'} else '', UNJUDGED if str(length) == '0' else '')
 
 
 def bench(words, given):

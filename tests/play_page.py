@@ -502,7 +502,7 @@ def branches(page):
     right('side by side', BESIDE, ['branches 2 and 1 part after step 2', '3 C kill reader aborted killed A run reader did',
                                    '4 C start started ! wire C start started ! wire'])
     page.key('Escape')
-    right('no longer side by side', '$("beside").hidden', True)
+    right('side by side is closed', '$("beside").hidden', True)
     page.key('t')
     page.key('ArrowUp')
     page.key('Delete')

@@ -336,6 +336,15 @@ def ports():
     return found + ([] if any(is_usual() for _ in range(5)) else ['without --port it is not at 8017, which is free'])
 
 
+def misnamed():
+    """What is wrong where a file is not there that has a `#` in its name: it is no link."""
+    process = subprocess.Popen([ZPLAY, '--port', '0', '--no-open', 'bug#12.zephyr'], stdout=subprocess.PIPE, stderr=subprocess.PIPE, text=True)
+    address = process.stdout.readline()
+    process.kill()
+    said = process.communicate()[1]
+    return [] if (address, said) == ('', 'zplay: bug#12.zephyr: No such file or directory\n') else ['it says %r' % (address + said)]
+
+
 def is_usual():
     """Whether a server without --port is at 8017, where nobody is there."""
     if is_open('127.0.0.1', 8017):

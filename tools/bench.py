@@ -12,7 +12,7 @@ from contextlib import suppress
 TOP = os.path.dirname(os.path.dirname(os.path.realpath(__file__)))
 
 # ZY_BENCH names another program than the one of this checkout.
-PROGRAM = os.environ.get('ZY_BENCH', os.path.join(TOP, 'zy_bench'))
+PROGRAM = os.environ.get('ZY_BENCH') or os.path.join(TOP, 'zy_bench')
 
 # Lone bytes that are no UTF-8 go through a text unchanged.
 BYTES = {'encoding': 'utf-8', 'errors': 'surrogateescape'}

@@ -218,11 +218,16 @@ def say(line):
     print(line, file=sys.stderr, flush=True)
 
 
+# The signals that have come.
+SIGNALS = []
+
+
 def obey():
-    """Ends tidily at a signal that is not ignored, as that of a closed terminal is under nohup."""
+    """Notes each signal that is to end the build, but one that is ignored, as that of a closed terminal is under nohup. The build ends between two steps,
+    where no crate's kept work is on its way from one folder to another."""
     for number in (signal.SIGINT, signal.SIGTERM, signal.SIGHUP):
         if signal.getsignal(number) != signal.SIG_IGN:
-            signal.signal(number, lambda *_: sys.exit(FAILED))
+            signal.signal(number, lambda number, _: SIGNALS.append(number))
 
 
 def main():
@@ -237,7 +242,7 @@ def main():
     try:
         while build.left or build.under_way:
             build.begin()
-            if not build.step() or os.getppid() != ASKED_BY:
+            if SIGNALS or not build.step() or os.getppid() != ASKED_BY:
                 return FAILED
             time.sleep(0.5)
     finally:

@@ -1,7 +1,7 @@
 """rt, with three things done otherwise. It takes the sum of each crate's files once before a proof and once after it, which tells whether a file was changed
 meanwhile: rt takes it again for each crate above, and some kits' rt for each way down the crates. `rt lib` leaves a library's statements in place of its
 whole proof, as the gate does, so that the crates above it load less. And where no check has kept work on a program in its folder out, `rt run` keeps none,
-which is faster and takes up to 5 GiB of memory; by one job it keeps some.
+which is faster and takes some 5 GiB of memory for `zy_bench` by four jobs; by one job it keeps some.
 
     rt_once.py WORD ..
 

@@ -1,6 +1,7 @@
 """Rounds of the store: a scenario, a run of it, and what `zy_bench order` says of the logs."""
 
 import argparse
+import errno
 import os
 import random
 import re
@@ -22,7 +23,7 @@ from files import status_of
 from lines import form_of
 
 # ZY_BENCH names another program than the one of this checkout.
-PROGRAM = os.environ.get('ZY_BENCH', os.path.join(TOP, 'zy_bench'))
+PROGRAM = os.environ.get('ZY_BENCH') or os.path.join(TOP, 'zy_bench')
 
 # Bytes that are no UTF-8 go through unchanged, so that zy_bench says where they are.
 TEXT = {'encoding': 'utf-8', 'errors': 'surrogateescape'}
@@ -101,6 +102,12 @@ def put(text, *path):
         file.write(text)
 
 
+def use_program():
+    """Where the program is not built, this builds it, and shows how far that is."""
+    if subprocess.run([PROGRAM, '--version'], stdout=subprocess.DEVNULL, check=False).returncode:
+        raise OSError(errno.ENOEXEC, 'it does not run', PROGRAM)
+
+
 def ask(words, given):
     return subprocess.run([PROGRAM, *words], input=given, capture_output=True, check=False, **TEXT)
 
@@ -112,17 +119,17 @@ STORE = (sys.executable, os.path.join(HERE, 'store.py'))
 def run_store(folder, flags, is_to_crash=False, limit=LIMIT, store=STORE):
     """Runs a store over the scenario in a folder, and returns how often its fault made a difference: the last word that it prints, if that is a number, else 0."""
     command = [*store, os.path.join(folder, 'scenario'), folder, *flags]
-    with subprocess.Popen(command, stdout=subprocess.PIPE, stderr=subprocess.PIPE, start_new_session=True, encoding='utf-8', errors='replace') as store:
+    with subprocess.Popen(command, stdout=subprocess.PIPE, stderr=subprocess.PIPE, start_new_session=True, encoding='utf-8', errors='replace') as process:
         try:
-            output, errors = store.communicate(timeout=limit)
+            output, errors = process.communicate(timeout=limit)
         except BaseException as reason:
             with suppress(ProcessLookupError):
-                os.killpg(store.pid, signal.SIGKILL)
+                os.killpg(process.pid, signal.SIGKILL)
             if isinstance(reason, subprocess.TimeoutExpired):
                 raise Failed('the store did not end within %g s' % limit) from None
             raise
-    if not has_run(store.returncode, folder, is_to_crash):
-        raise Failed(errors.strip() or 'the store ended with status %d' % store.returncode)
+    if not has_run(process.returncode, folder, is_to_crash):
+        raise Failed(errors.strip() or 'the store ended with status %d' % process.returncode)
     last = output.split()[-1:]
     return int(last[0]) if last and last[0].isdecimal() else 0
 
