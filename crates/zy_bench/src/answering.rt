@@ -6,7 +6,7 @@ use crate::command_line::request::Quest;
 use crate::exit_status::{COMMAND_LINE, DONE, NOWHERE, SPENT};
 use crate::explained::explain_found;
 use crate::marked::Marked;
-use crate::output::{PipeSink, flush};
+use crate::output::{Output, pass};
 use crate::progress::Progress;
 use crate::summary::{Count, Summary};
 use std::alloc::Global;
@@ -71,9 +71,9 @@ pub fn answer<R: Eprint + AllocGlobal + Clock + Threads + Sync, G: Read, W: Writ
     quest: Quest<'_>,
     given: &mut G,
     input: &mut Vec<u8>,
-    output: &mut PipeSink<W>,
+    output: &mut Output<W>,
 ) -> Result<u8, BenchFault>
-    requires { output.old.1 < u64.MAX }
+    requires { output.old.sink.1 < u64.MAX }
 {
     if let Some(fault) = sought_of(rt.alloc(), quest, Names::Unknown).err() {
         return no_goal(rt, quest, fault);
@@ -88,9 +88,9 @@ fn answer_read<R: Eprint + AllocGlobal + Clock + Threads + Sync, W: Write>(
     asked: Asked,
     quest: Quest<'_>,
     scenario: &[u8],
-    output: &mut PipeSink<W>,
+    output: &mut Output<W>,
 ) -> Result<u8, BenchFault>
-    requires { output.old.1 < u64.MAX }
+    requires { output.old.sink.1 < u64.MAX }
 {
     match sought_in(rt.alloc(), quest, scenario)? {
         Ok(sought) => {
@@ -152,10 +152,10 @@ fn search<R: Eprint + AllocGlobal + Clock + Threads + Sync, W: Write>(
     quest: Quest<'_>,
     sought: Sought,
     scenario: &[u8],
-    output: &mut PipeSink<W>,
+    output: &mut Output<W>,
     is_terminal: bool,
 ) -> Result<u8, BenchFault>
-    requires { output.old.1 < u64.MAX }
+    requires { output.old.sink.1 < u64.MAX }
 {
     let outcome = match lacking(rt.alloc(), quest.options, scenario) {
         Ok(None) => return search_all(rt, quest, sought, scenario, output, is_terminal),
@@ -179,10 +179,10 @@ fn search_all<R: Eprint + AllocGlobal + Clock + Threads + Sync, W: Write>(
     quest: Quest<'_>,
     sought: Sought,
     scenario: &[u8],
-    output: &mut PipeSink<W>,
+    output: &mut Output<W>,
     is_terminal: bool,
 ) -> Result<u8, BenchFault>
-    requires { output.old.1 < u64.MAX }
+    requires { output.old.sink.1 < u64.MAX }
 {
     let mut progress = Progress::new(rt, is_terminal);
     let question = Question {
@@ -204,11 +204,11 @@ fn tell_answer<R: Eprint + AllocGlobal, W: Write>(
     quest: Quest<'_>,
     scenario: &[u8],
     report: &SearchReport,
-    output: &mut PipeSink<W>,
+    output: &mut Output<W>,
 ) -> Result<u8, BenchFault>
-    requires { output.old.1 < u64.MAX }
+    requires { output.old.sink.1 < u64.MAX }
 {
-    flush(output)?;
+    pass(output)?;
     sum_up(rt, report, quest);
     Ok(match &report.answer {
         SearchAnswer::Found(path) => {
@@ -226,14 +226,14 @@ fn find<R: Eprint + AllocGlobal, W: Write>(
     format: Format,
     sought: Sought,
     scenario: &[u8],
-    output: &mut PipeSink<W>,
+    output: &mut Output<W>,
 ) -> Result<u8, BenchFault>
-    requires { output.old.1 < u64.MAX }
+    requires { output.old.sink.1 < u64.MAX }
 {
     let found = find_input(rt.alloc(), format, &sought, scenario, output);
     drop(sought);
     let count = found?;
-    flush(output)?;
+    pass(output)?;
     Ok(if count == 0 { NOWHERE } else { DONE })
 }
 

@@ -1,6 +1,8 @@
 //! What a command is given to read.
-ghost use Rattle.std.specs.Prelude.{◌≤◌, None, length};
+ghost use Rattle.std.specs.Prelude.{◌≡◌, ◌≤◌, ◌==◌, ◌∷◌, [], None, length, take, if◌then◌else◌};
 ghost use Rattle.std.specs.Io.{ReadsAtMost};
+ghost use Rattle.std.specs.Io.KnownBytes.{ReadConsumes};
+ghost use Rattle.zy_bench.specs.Given.{left_of};
 
 use std::io::{ErrorKind, Read};
 use std::{fmt, io};
@@ -41,39 +43,52 @@ impl<F: Drop, S> Given<F, S> {
     pub fn failure(&self) -> Option<Failure> {
         self.failure
     }
-
-    /// Ends the file with a line feed, so that standard input begins a line.
-    fn end_file(&mut self, buffer: &mut [u8]) -> usize
-        ensures { result ≤ length buffer.new }
-    {
-        let Some(first) = buffer.first_mut() else {
-            return 0;
-        };
-        *first = b'\n';
-        self.file = None;
-        self.lines = self.lines.saturating_add(1);
-        1
-    }
 }
 
 impl<F: Read + Drop, S: Read> Given<F, S> {
-    /// Reads the next bytes.
+    /// Reads the next bytes. Where the file ends above standard input, a line feed ends it.
     fn next(&mut self, buffer: &mut [u8]) -> io::Result<usize>
-        ensures { ReadsAtMost result buffer.new }
+        ensures bound { ReadsAtMost result buffer.new }
+        ensures bytes { ReadConsumes (left_of F.remaining S.remaining self.old.file self.old.standard)
+            (left_of F.remaining S.remaining self.new.file self.new.standard) result buffer.new }
     {
-        if let Some(file) = &mut self.file {
-            let count = file.read(buffer)?;
-            if count == 0 && self.standard.is_some() {
-                return Ok(self.end_file(buffer));
-            }
-            self.lines = self.lines.saturating_add(line_feeds(buffer, count));
-            return Ok(count);
+        let Some(file) = &mut self.file else {
+            return self.next_of_standard(buffer);
+        };
+        let count = file.read(buffer)?;
+        if count == 0 && !buffer.is_empty() && self.standard.is_some() {
+            self.file = None;
+            self.lines = self.lines.saturating_add(1);
+            return Ok(line_feed(buffer));
         }
+        self.lines = self.lines.saturating_add(line_feeds(buffer, count));
+        Ok(count)
+    }
+
+    /// Reads the next bytes of standard input, where it is read.
+    fn next_of_standard(&mut self, buffer: &mut [u8]) -> io::Result<usize>
+        requires { self.old.file ≡ None }
+        ensures bound { ReadsAtMost result buffer.new }
+        ensures bytes { ReadConsumes (left_of F.remaining S.remaining self.old.file self.old.standard)
+            (left_of F.remaining S.remaining self.new.file self.new.standard) result buffer.new }
+    {
         match &mut self.standard {
             Some(standard) => standard.read(buffer),
             None => Ok(0),
         }
     }
+}
+
+/// A line feed, where there is room for one. It returns how many bytes that are.
+fn line_feed(buffer: &mut [u8]) -> usize
+    ensures bound { result ≤ length buffer.new }
+    ensures bytes { take result buffer.new ≡ (if length buffer.old == 0 then [] else 10 ∷ []) }
+{
+    let Some(first) = buffer.first_mut() else {
+        return 0;
+    };
+    *first = b'\n';
+    1
 }
 
 /// How many of the first bytes are line feeds.
@@ -83,7 +98,7 @@ fn line_feeds(bytes: &[u8], count: usize) -> usize {
 }
 
 impl<F: Read + Drop, S: Read> Read for Given<F, S> {
-    ghost remaining = { λ _. None };
+    ghost remaining = { λ s. left_of F.remaining S.remaining s.file s.standard };
 
     fn read(&mut self, buffer: &mut [u8]) -> io::Result<usize> {
         let outcome = self.next(buffer);

@@ -2,10 +2,10 @@
 ghost use Rattle.std.specs.Prelude.{◌<◌};
 
 use crate::origin::Origin;
-use crate::output::{PipeSink, flush};
+use crate::output::{Output, output_to, pass};
 use std::alloc::Global;
 use std::fs;
-use std::io::{BufWriter, Write};
+use std::io::Write;
 use std::rt::Files;
 use zy_engine::{BenchFault, Wording};
 use zy_isa::Choice;
@@ -71,10 +71,7 @@ impl Keeper<'_> {
         input: &[u8],
         order: &[Choice],
     ) -> Result<(), BenchFault> {
-        let Ok(buffer) = BufWriter::new(alloc, file) else {
-            return Err(BenchFault::Memory);
-        };
-        let mut output = PipeSink::new(buffer);
+        let mut output = output_to(alloc, file)?;
         let written = self.write_through(alloc, input, order, &mut output);
         drop(output);
         written
@@ -86,11 +83,11 @@ impl Keeper<'_> {
         alloc: Global,
         input: &[u8],
         order: &[Choice],
-        output: &mut PipeSink<W>,
+        output: &mut Output<W>,
     ) -> Result<(), BenchFault>
-        requires { output.old.1 < u64.MAX }
+        requires { output.old.sink.1 < u64.MAX }
     {
         write_behind(alloc, self.wording, input, order, output)?;
-        flush(output)
+        pass(output)
     }
 }

@@ -43,9 +43,9 @@ use hint::Hint;
 use nothing::Nothing;
 use ordering::{Asker, order};
 use origin::Origin;
-use output::{PipeSink, flush};
+use output::{Output, output_to, pass, pass_rest};
 use std::alloc::Global;
-use std::io::{BufWriter, IsTerminal, Read, Write};
+use std::io::{IsTerminal, Read, Write};
 use std::process::ExitCode;
 use std::rt::{Env, Files};
 use std::sync::Wait;
@@ -68,10 +68,10 @@ use zy_threads::FreeGate;
 const DIFFERING_END: &'static [u8] = b"serial differs\nend\n";
 
 /// Ends a command that has written: passes on what is kept back, and gives the exit status.
-fn close<W: Write>(output: &mut PipeSink<W>) -> Result<u8, BenchFault>
-    requires { output.old.1 < u64.MAX }
+fn close<W: Write>(output: &mut Output<W>) -> Result<u8, BenchFault>
+    requires { output.old.sink.1 < u64.MAX }
 {
-    flush(output)?;
+    pass(output)?;
     Ok(DONE)
 }
 
@@ -79,11 +79,11 @@ fn close<W: Write>(output: &mut PipeSink<W>) -> Result<u8, BenchFault>
 fn close_run<R: Eprint + AllocGlobal, W: Write>(
     rt: &R,
     machine: &Machine,
-    output: &mut PipeSink<W>,
+    output: &mut Output<W>,
 ) -> Result<u8, BenchFault>
-    requires { output.old.1 < u64.MAX }
+    requires { output.old.sink.1 < u64.MAX }
 {
-    flush(output)?;
+    pass(output)?;
     comment(rt, machine);
     Ok(DONE)
 }
@@ -94,9 +94,9 @@ fn convert<R: Eprint + AllocGlobal + Threads + Wait + Sync, G: Read, W: Write>(
     conversion: Conversion,
     given: &mut G,
     input: &mut Vec<u8>,
-    output: &mut PipeSink<W>,
+    output: &mut Output<W>,
 ) -> Result<u8, BenchFault>
-    requires { output.old.1 < u64.MAX }
+    requires { output.old.sink.1 < u64.MAX }
 {
     let source = &mut CountingReader::new(given);
     match conversion {
@@ -121,10 +121,10 @@ fn run<R: Eprint + AllocGlobal + Threads + Wait + Sync, S: Source, W: Write>(
     format: Format,
     source: &mut S,
     input: &mut Vec<u8>,
-    output: &mut PipeSink<W>,
+    output: &mut Output<W>,
 ) -> Result<u8, BenchFault>
     requires source { S.failures source.old < u64.MAX }
-    requires output { output.old.1 < u64.MAX }
+    requires output { output.old.sink.1 < u64.MAX }
 {
     let machine = shown_run(rt, shown, format, source, input, output)?;
     let status = close_run(rt, &machine, output);
@@ -139,11 +139,11 @@ fn shown_run<R: AllocGlobal + Threads + Wait + Sync, S: Source, W: Write>(
     format: Format,
     source: &mut S,
     input: &mut Vec<u8>,
-    output: &mut PipeSink<W>,
+    output: &mut Output<W>,
 ) -> Result<Machine, BenchFault>
     requires source { S.failures source.old < u64.MAX }
-    requires output { output.old.1 < u64.MAX }
-    ensures { OnOk result (output.new.1 < u64.MAX) }
+    requires output { output.old.sink.1 < u64.MAX }
+    ensures { OnOk result (output.new.sink.1 < u64.MAX) }
 {
     let alloc = rt.alloc();
     match shown {
@@ -167,16 +167,16 @@ fn check<R: Eprint + AllocGlobal, G: Read, W: Write>(
     file: Option<&str>,
     given: &mut G,
     input: &mut Vec<u8>,
-    output: &mut PipeSink<W>,
+    output: &mut Output<W>,
 ) -> Result<u8, BenchFault>
-    requires { output.old.1 < u64.MAX }
+    requires { output.old.sink.1 < u64.MAX }
 {
     let mut source = CountingReader::new(given);
     let verdict = check_bytes(rt.alloc(), &mut source, output, input)?;
     let listing = input.as_slice();
     match verdict {
         Verdict::Table => {
-            flush(output)?;
+            pass(output)?;
             if listing.ends_with(DIFFERING_END) {
                 explain_again(rt, Format::Text, scenario_part(listing));
             }
@@ -198,11 +198,11 @@ fn close_differing<R: Eprint, W: Write>(
     input: &[u8],
     line: usize,
     due: &[u8],
-    output: &mut PipeSink<W>,
+    output: &mut Output<W>,
 ) -> Result<u8, BenchFault>
-    requires { output.old.1 < u64.MAX }
+    requires { output.old.sink.1 < u64.MAX }
 {
-    flush(output)?;
+    pass(output)?;
     show(rt, file, input, line, due);
     Ok(NOT_TABLE)
 }
@@ -214,9 +214,9 @@ fn debug<R: Eprint + AllocGlobal, F: Read + Drop, S: Read, W: Write>(
     file: Option<&str>,
     given: &mut Given<F, S>,
     input: &mut Vec<u8>,
-    output: &mut PipeSink<W>,
+    output: &mut Output<W>,
 ) -> Result<u8, BenchFault>
-    requires { output.old.1 < u64.MAX }
+    requires { output.old.sink.1 < u64.MAX }
 {
     let Checkpoints { every, ring } = checkpoints;
     if !(1..=MAX_EVERY).contains(&every) || !(1..=MAX_RING).contains(&ring) {
@@ -224,7 +224,7 @@ fn debug<R: Eprint + AllocGlobal, F: Read + Drop, S: Read, W: Write>(
     }
     let mut source = CountingReader::new(&mut *given);
     debug_bytes(rt.alloc(), every, ring, &mut source, output, input)?;
-    flush(output)?;
+    pass(output)?;
     let session = Commands {
         file,
         lines: given.lines(),
@@ -313,11 +313,11 @@ fn carry_out<R: Print + Eprint + Input + Files + AllocGlobal + Clock + Threads +
     request: Request<'_>,
     is_terminal: bool,
 ) -> u8 {
-    let Ok(buffer) = BufWriter::new(rt.alloc(), io::writer(rt)) else {
+    let Ok(mut output) = output_to(rt.alloc(), io::writer(rt)) else {
         return tell(rt, BenchFault::Memory);
     };
-    let mut output = PipeSink::new(buffer);
     let status = write_answer(rt, request, is_terminal, &mut output);
+    pass_rest(&mut output);
     drop(output);
     status
 }
@@ -327,9 +327,9 @@ fn write_answer<R: Eprint + Input + Files + AllocGlobal + Clock + Threads + Wait
     rt: &R,
     request: Request<'_>,
     is_terminal: bool,
-    output: &mut PipeSink<W>,
+    output: &mut Output<W>,
 ) -> u8
-    requires { output.old.1 < u64.MAX }
+    requires { output.old.sink.1 < u64.MAX }
 {
     match open(rt, request) {
         Ok(mut given) => {
@@ -352,14 +352,14 @@ fn answer_given<
     request: Request<'_>,
     is_terminal: bool,
     given: &mut Given<F, S>,
-    output: &mut PipeSink<W>,
+    output: &mut Output<W>,
 ) -> u8
-    requires { output.old.1 < u64.MAX }
+    requires { output.old.sink.1 < u64.MAX }
 {
     let mut input = Vec::new(rt.alloc());
     let status = match perform(rt, request, is_terminal, given, &mut input, output) {
         Ok(status) => status,
-        Err(BenchFault::Write) if output.is_unread() => BenchFault::Write.status(),
+        Err(BenchFault::Write) if output.sink().is_unread() => BenchFault::Write.status(),
         Err(fault) => advise(rt, reading_of(request, given, input.as_slice()), fault),
     };
     drop(input);
@@ -378,9 +378,9 @@ fn perform<
     is_terminal: bool,
     given: &mut Given<F, S>,
     input: &mut Vec<u8>,
-    output: &mut PipeSink<W>,
+    output: &mut Output<W>,
 ) -> Result<u8, BenchFault>
-    requires { output.old.1 < u64.MAX }
+    requires { output.old.sink.1 < u64.MAX }
 {
     let file = request.file;
     match request.task {

@@ -5,7 +5,7 @@ use crate::command_line::request::LogQuest;
 use crate::exit_status::{DONE, NOWHERE, SPENT};
 use crate::furthest::{Furthest, Steps};
 use crate::keeping::Keeper;
-use crate::output::{PipeSink, flush};
+use crate::output::{Output, pass};
 use crate::progress::Progress;
 use crate::refused_line::RefusedLine;
 use crate::refused_object::{RefusedObject, ToldLine};
@@ -38,9 +38,9 @@ pub fn order<R: Eprint + Files + AllocGlobal + Clock, G: Read, W: Write>(
     asker: Asker<'_>,
     given: &mut G,
     input: &mut Vec<u8>,
-    output: &mut PipeSink<W>,
+    output: &mut Output<W>,
 ) -> Result<u8, BenchFault>
-    requires { output.old.1 < u64.MAX }
+    requires { output.old.sink.1 < u64.MAX }
 {
     let file = asker.file;
     let mut progress = Progress::new(rt, asker.is_terminal);
@@ -71,11 +71,11 @@ fn tell_report<R: Eprint + Files + AllocGlobal, W: Write>(
     file: Option<&str>,
     input: &[u8],
     report: &OrderReport,
-    output: &mut PipeSink<W>,
+    output: &mut Output<W>,
 ) -> Result<u8, BenchFault>
-    requires { output.old.1 < u64.MAX }
+    requires { output.old.sink.1 < u64.MAX }
 {
-    flush(output)?;
+    pass(output)?;
     let status = sum_up(rt, quest, file, input, report)?;
     Ok(kept(rt, quest, input, &report.answer).unwrap_or(status))
 }

@@ -1,12 +1,26 @@
 //! Standard output, and whether anybody reads it.
-ghost use Rattle.std.specs.Prelude.{◌≡◌, ◌<◌, ◌+◌, is_err, if◌then◌else◌};
-ghost use Rattle.std.specs.Io.KnownBytes.{Keeps};
+ghost use Rattle.std.specs.Prelude.{◌≡◌, ◌<◌, IfOk};
 
+use std::alloc::{AllocError, Global};
 use std::io;
 use std::io::Write;
 use std::marker::Model;
 use zy_engine::BenchFault;
-use zy_io::{CountingWriter, Sink};
+use zy_io::{Buffered, CountingWriter, Sink};
+
+/// How many bytes are kept back at most.
+const HELD: usize = 8192;
+
+/// What commands write to: it keeps bytes back, and passes on many at a time.
+pub type Output<W> = Buffered<PipeSink<W>>;
+
+/// An output over a writer, to which nothing was written yet.
+pub fn output_to<W>(alloc: Global, writer: W) -> Result<Output<W>, AllocError>
+    ensures { IfOk result (λ o. o.sink.1 ≡ 0) }
+{
+    let held = Vec::with_capacity(alloc, HELD)?;
+    Ok(Buffered::new(PipeSink::new(writer), held))
+}
 
 /// A sink over a writer that notes whether a call has failed since nobody reads any more.
 #[derive(Drop)]
@@ -34,22 +48,16 @@ impl<W> PipeSink<W> {
         }
     }
 
+    /// How many calls so far failed or, given bytes, took none.
+    pub fn failures(&self) -> u64
+        ensures { result ≡ self.now.1 }
+    {
+        self.sink.failures()
+    }
+
     /// Whether a call has failed since the reader of a pipe has closed it.
     pub fn is_unread(&self) -> bool {
         self.is_unread
-    }
-}
-
-impl<W: Write> PipeSink<W> {
-    /// Passes on what is kept back.
-    pub fn flush(&mut self) -> io::Result<()>
-        requires { self.old.1 < u64.MAX }
-        ensures bytes { Keeps (W.contents self.old.0) (W.contents self.new.0) }
-        ensures failed { self.new.1 ≡ self.old.1 + (if is_err result then 1 else 0) }
-    {
-        let outcome = self.sink.flush();
-        self.is_unread = self.is_unread || is_of_closed_pipe(&outcome);
-        outcome
     }
 }
 
@@ -74,11 +82,18 @@ fn is_of_closed_pipe<T>(outcome: &io::Result<T>) -> bool {
 }
 
 /// Passes on what is kept back for standard output.
-pub fn flush<W: Write>(output: &mut PipeSink<W>) -> Result<(), BenchFault>
-    requires { output.old.1 < u64.MAX }
+pub fn pass<W: Write>(output: &mut Output<W>) -> Result<(), BenchFault>
+    requires { output.old.sink.1 < u64.MAX }
 {
-    match output.flush() {
+    match output.pass() {
         Ok(()) => Ok(()),
         Err(_) => Err(BenchFault::Write),
+    }
+}
+
+/// Passes on what a command that has ended with a fault has left, unless the writer has failed.
+pub fn pass_rest<W: Write>(output: &mut Output<W>) {
+    if output.sink().failures() == 0 {
+        let _ = output.pass();
     }
 }

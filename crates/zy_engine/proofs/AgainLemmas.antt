@@ -1,6 +1,7 @@
 -- The scenario part of a listing gives that listing.
 use Rattle.std.proofs.Common.{◌≡◌, ◌∙◌, ℕ, List, Option, Result, Ok, Err, inl, inr, subst, sym}
 use Rattle.std.specs.Io.KnownBytes.{Appends}
+use Rattle.zy_io.specs.Inputs.{reported_of}
 use Rattle.zy_io.specs.declared.writing.TextFault.{TextFault}
 use Rattle.zy_isa.specs.declared.choice.Choice.{Choice}
 use Rattle.zy_text.specs.Canon.{canon}
@@ -8,7 +9,7 @@ use Rattle.zy_isa.specs.Scenario.{Scenario, IsScenario}
 use Rattle.zy_text.specs.Text.{Means}
 use Rattle.zy_asm.proofs.CanonLemmas.{Means-canon}
 use Rattle.zy_asm.proofs.OnlyLemmas.{only, only_of}
-use Rattle.zy_listing.specs.Run.{listing_run}
+use Rattle.zy_listing.specs.Run.{listing_run, WroteRun}
 use Rattle.zy_check.proofs.LawLemmas.{cut-run}
 use Rattle.zy_threads.specs.Orders.{reordered}
 use Rattle.zy_threads.specs.Turns.{IsMerge}
@@ -16,9 +17,8 @@ use Rattle.zy_threads.proofs.MergeLemmas.{merge_scenario}
 use Rattle.zy_machine.specs.Histories.{History}
 use Rattle.zy_engine.specs.declared.format.Format.TheVariants.{Text}
 use Rattle.zy_engine.specs.Again.{RunsAgain}
-use Rattle.zy_engine.specs.Faults.{of_result}
+use Rattle.zy_engine.specs.Faults.{of_writing}
 use Rattle.zy_engine.specs.OnInput.{OnInput}
-use Rattle.zy_engine.specs.Outputs.{WroteRun}
 
 -- a text means one scenario
 means_one : (text : List ℕ) (s t : Scenario) → Means text s → Means text t → s ≡ t
@@ -27,7 +27,7 @@ means_one text s t h k = sym (only_of text _ s (only text s h) h) ∙ only_of te
 -- a run of the canonical text of a scenario, where it is done, writes the listing of that scenario
 module _ (sc : Scenario) (h : IsScenario sc) (old new : Option (List ℕ)) (before after : ℕ) (machine : History) where
   -- what it wrote is a listing of a scenario that the text means
-  wrote : (came : Result History TextFault) (s : Scenario) → Ok machine ≡ of_result came → Means (canon sc) s
+  wrote : (came : Result History TextFault) (s : Scenario) → Ok machine ≡ reported_of of_writing came → Means (canon sc) s
       → WroteRun listing_run s old new before after came → Appends old new (listing_run sc)
   wrote (Ok m) s e means due =
       subst (λ (t : Scenario). Appends old new (listing_run t)) (means_one (canon sc) s sc means (Means-canon sc h)) due.wrote.0
@@ -35,7 +35,7 @@ module _ (sc : Scenario) (h : IsScenario sc) (old new : Option (List ℕ)) (befo
 
   written_again : OnInput (WroteRun listing_run) Text (canon sc) old new before after (Ok machine) → Appends old new (listing_run sc)
   written_again on = elim on [
-    | inl done ↦ wrote done.came done.scenario done.reported done.accepted.stands done.due
+    | inl done ↦ wrote done.came done.meant done.reported done.accepted.stands done.due
     | inr refused ↦ let e = refused.reported in absurd (cc)
   ]
 

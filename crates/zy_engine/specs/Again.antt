@@ -4,12 +4,11 @@ use Rattle.std.specs.Io.KnownBytes.{Appends}
 use Rattle.zy_text.specs.Canon.{canon}
 use Rattle.zy_isa.specs.Scenario.{Scenario}
 use Rattle.zy_text.specs.Text.{Means}
-use Rattle.zy_listing.specs.Run.{listing_run}
+use Rattle.zy_listing.specs.Run.{listing_run, WroteRun}
 use Rattle.zy_text.specs.Cut.{cut}
 use Rattle.zy_machine.specs.Histories.{History}
 use Rattle.zy_engine.specs.declared.format.Format.TheVariants.{Text}
 use Rattle.zy_engine.specs.OnInput.{OnInput}
-use Rattle.zy_engine.specs.Outputs.{WroteRun}
 
 -- the scenario part of the listing is the scenario's canonical text and means it; and run of that part, where it is
 -- done, writes the listing

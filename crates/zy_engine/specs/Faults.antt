@@ -1,5 +1,5 @@
 -- The faults of an engine.
-use Rattle.std.specs.Prelude.{ℕ, Result, Ok, Err}
+use Rattle.std.specs.Prelude.{ℕ}
 use Rattle.zy_io.specs.declared.reading.ReadFault.{ReadFault}
 use Rattle.zy_io.specs.declared.reading.ReadFault.TheVariants as reading
 use Rattle.zy_io.specs.declared.writing.TextFault.{TextFault}
@@ -36,11 +36,6 @@ of_reading reading.Memory = Memory
 abbrev pub of_writing : TextFault → BenchFault
 of_writing writing.Write = Write
 of_writing writing.Memory = Memory
-
--- the result that is reported of a call that writes
-abbrev pub of_result : {X : Type 0} → Result X TextFault → Result X BenchFault
-of_result (Ok x) = Ok x
-of_result (Err f) = Err (of_writing f)
 
 abbrev pub status_of : BenchFault → ℕ
 status_of (Input r) = 1

@@ -1,5 +1,6 @@
 -- What an input stands for, in each format, and its first fault.
 use Rattle.std.specs.Prelude.{◌≡◌, ℕ, List, Some, None}
+use Rattle.zy_io.specs.Inputs as inputs
 use Rattle.zy_isa.specs.Scenario.{Scenario}
 use Rattle.zy_text.specs.Text.{Means}
 use Rattle.zy_asm.specs.Input.{input_fault}
@@ -37,7 +38,5 @@ IsRefusal format.Text bytes f = IsTextFault bytes f
 IsRefusal format.Image bytes f = IsImageFault bytes f
 
 -- the input stands for this scenario and for no other, and has no fault
-pub record IsAccepted (format : Format) (input : List ℕ) (scenario : Scenario) : Type 0 where
-  pub stands : StandsFor format input scenario
-  pub only : (other : Scenario) → StandsFor format input other → scenario ≡ other
-  pub right : HasNoFault format input
+abbrev pub IsAccepted : Format → List ℕ → Scenario → Type 0
+IsAccepted format input = inputs.IsAccepted (StandsFor format input) (HasNoFault format input)

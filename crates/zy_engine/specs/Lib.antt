@@ -2,7 +2,6 @@ pub mod Faults
 pub mod Inputs
 pub mod Outputs
 pub mod OnInput
-pub mod Engines
 pub mod Threads
 pub mod Again
 pub mod Checks

@@ -1,7 +1,7 @@
 //! The engine that checks a listing.
 ghost use Rattle.std.specs.Prelude.{◌≡◌, ◌<◌, IfOk};
 ghost use Rattle.zy_engine.specs.Checks.{Checks, WroteVerdict, WroteOrNothing, verdict_line};
-ghost use Rattle.zy_engine.specs.Engines.{ReadsInput, streams};
+ghost use Rattle.zy_io.specs.Inputs.{ReadsInput, streams};
 ghost use Rattle.zy_engine.specs.Faults.{of_reading};
 
 use crate::faults::BenchFault;

@@ -2,7 +2,7 @@
 ghost use Rattle.std.specs.Prelude.{◌<◌, ◌≤◌};
 ghost use Rattle.zy_text.specs.Words.{lines_of};
 ghost use Rattle.zy_console.specs.Console.{WroteReplies, opened};
-ghost use Rattle.zy_engine.specs.Engines.{ReadsInput, streams};
+ghost use Rattle.zy_io.specs.Inputs.{ReadsInput, streams};
 ghost use Rattle.zy_engine.specs.Faults.{of_reading};
 ghost use Rattle.zy_engine.specs.Debugs.{Debugs, max_every, max_ring};
 

@@ -1,10 +1,11 @@
 //! The engines of `run`, `trace`, `asm` and `dis`: bytes in, bytes out. Each is a function on an input in hand, and one that reads
 //! the input first. That one leaves what it has read to its caller, who can look at it again where it is rejected.
 ghost use Rattle.std.specs.Prelude.{◌<◌};
-ghost use Rattle.zy_engine.specs.Engines.{ReadsInput, streams};
+ghost use Rattle.zy_listing.specs.Run.{WroteOutput, WroteRun};
+ghost use Rattle.zy_io.specs.Inputs.{ReadsInput, streams};
 ghost use Rattle.zy_engine.specs.Faults.{of_reading};
 ghost use Rattle.zy_engine.specs.OnInput.{OnInput};
-ghost use Rattle.zy_engine.specs.Outputs.{output_of, shown_of, WroteRun, WroteOutput};
+ghost use Rattle.zy_engine.specs.Outputs.{output_of, shown_of};
 
 use crate::faults::BenchFault;
 use crate::format::{Format, accept};

@@ -3,7 +3,7 @@ ghost use Rattle.std.specs.Prelude.{◌<◌, map};
 ghost use Rattle.std.specs.Fmt.{decimal};
 ghost use Rattle.zy_engine.specs.Finding.{positions_text};
 ghost use Rattle.zy_engine.specs.OnInput.{OnInput};
-ghost use Rattle.zy_engine.specs.Outputs.{WroteOutput};
+ghost use Rattle.zy_listing.specs.Run.{WroteOutput};
 
 use crate::faults::BenchFault;
 use crate::format::{Format, accept};

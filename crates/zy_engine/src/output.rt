@@ -1,6 +1,7 @@
 //! What the engines write of a scenario.
 ghost use Rattle.std.specs.Prelude.{◌<◌};
-ghost use Rattle.zy_engine.specs.Outputs.{output_of, shown_of, WroteRun, WroteOutput};
+ghost use Rattle.zy_listing.specs.Run.{WroteOutput, WroteRun};
+ghost use Rattle.zy_engine.specs.Outputs.{output_of, shown_of};
 ghost use Rattle.zy_engine.specs.declared.output.SourceFormat.TheVariants.{Image};
 
 use crate::step_objects::write_objects;

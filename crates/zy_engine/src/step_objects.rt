@@ -2,7 +2,7 @@
 ghost use Rattle.std.specs.Prelude.{◌<◌, map};
 ghost use Rattle.std.specs.List.{flat_map};
 ghost use Rattle.zy_io.specs.Writing.{line_of, Wrote};
-ghost use Rattle.zy_engine.specs.Outputs.{WroteRun};
+ghost use Rattle.zy_listing.specs.Run.{WroteRun};
 ghost use Rattle.zy_engine.specs.StepObjects.{objects_text};
 ghost use Rattle.zy_trace.specs.Objects.{object_text};
 

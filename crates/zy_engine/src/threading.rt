@@ -1,6 +1,6 @@
 //! The engine of a run by three threads.
 ghost use Rattle.std.specs.Prelude.{◌<◌};
-ghost use Rattle.zy_engine.specs.Engines.{ReadsInput, streams};
+ghost use Rattle.zy_io.specs.Inputs.{ReadsInput, streams};
 ghost use Rattle.zy_engine.specs.Faults.{of_reading};
 ghost use Rattle.zy_engine.specs.OnInput.{OnInput};
 ghost use Rattle.zy_engine.specs.Threads.{WroteMerge};

@@ -16,7 +16,7 @@ pub struct Advised<'a> {
     pub cause: Cause,
 }
 
-/// The fault's name, and the words.
+/// The fault's name, and what to do about it where the input or its reader is at fault.
 impl fmt::Display for Advised<'_> {
     fn fmt<W: fmt::Write>(&self, f: &mut fmt::Formatter<W>) -> fmt::Result {
         match self.fault {
@@ -25,10 +25,8 @@ impl fmt::Display for Advised<'_> {
                 let advice = TextAdvice::of(CommandName::Run, self.input, refusal);
                 write!(f, "Input(line {line}, {kind:?}): {advice}")
             }
-            RunFault::TooLong => f.write_str("TooLong: an input has at most 4194304 bytes"),
             RunFault::Read => write!(f, "Read: {}", self.cause),
-            RunFault::Write => f.write_str("Write: the output could not be written"),
-            RunFault::Memory => f.write_str("Memory: there is not enough memory for this run"),
+            fault => write!(f, "{fault}"),
         }
     }
 }

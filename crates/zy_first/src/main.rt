@@ -15,19 +15,12 @@ use noted::{Cause, Noted};
 use run::run;
 use std::alloc::Global;
 use std::io;
-use std::io::{BufWriter, Read, Write};
+use std::io::{Read, Write};
 use std::process::ExitCode;
-use zy_io::{CountingReader, CountingWriter};
+use zy_io::{Buffered, CountingReader, CountingWriter, Source};
 
-/// Passes on what is kept back for standard output.
-fn flush<W: Write>(sink: &mut CountingWriter<W>) -> Result<(), RunFault>
-    requires { sink.old.1 < u64.MAX }
-{
-    match sink.flush() {
-        Ok(()) => Ok(()),
-        Err(_) => Err(RunFault::Write),
-    }
-}
+/// How many bytes of a listing are kept back at most.
+const HELD: usize = 8192;
 
 /// Writes the listing of the scenario that is given, whose bytes it leaves in `input`.
 fn list<G: Read, W: Write>(
@@ -37,9 +30,31 @@ fn list<G: Read, W: Write>(
     input: &mut Vec<u8>,
 ) -> Result<(), RunFault> {
     let mut source = CountingReader::new(given);
-    let mut sink = CountingWriter::new(output);
-    run(alloc, &mut source, &mut sink, input)?;
-    flush(&mut sink)
+    let held = Vec::with_capacity(alloc, HELD)?;
+    let mut sink = Buffered::new(CountingWriter::new(output), held);
+    let listed = list_to(alloc, &mut source, &mut sink, input);
+    // Of a listing that ends with a fault, what was written goes out, too.
+    if listed.is_err() && sink.sink().failures() == 0 {
+        let _ = sink.pass();
+    }
+    drop(sink);
+    listed
+}
+
+/// Writes the listing of the scenario that a source gives, and passes on all of it.
+fn list_to<S: Source, W: Write>(
+    alloc: Global,
+    source: &mut S,
+    sink: &mut Buffered<CountingWriter<W>>,
+    input: &mut Vec<u8>,
+) -> Result<(), RunFault>
+    requires source { S.failures source.old < u64.MAX }
+    requires sink { sink.old.sink.1 < u64.MAX }
+{
+    let machine = run(alloc, source, sink, input)?;
+    machine.discard();
+    sink.pass()?;
+    Ok(())
 }
 
 /// Reports a fault on standard error, and gives the exit status.
@@ -74,19 +89,9 @@ fn answer<R: Eprint + AllocGlobal, G: Read, W: Write>(
 
 /// Writes the listing of the scenario on standard input, or says why there is none, and gives the exit status.
 fn answer_input<R: Print + Eprint + Input + AllocGlobal>(rt: &R) -> u8 {
-    let Ok(buffer) = BufWriter::new(rt.alloc(), io::writer(rt)) else {
-        let advised = Advised {
-            fault: RunFault::Memory,
-            input: &[],
-            cause: Cause::Other,
-        };
-        return tell(rt, advised);
-    };
     let mut given = Noted::new(rt.reader());
-    let mut output = Noted::new(buffer);
-    let status = answer(rt, &mut given, &mut output);
-    drop(output);
-    status
+    let mut output = Noted::new(io::writer(rt));
+    answer(rt, &mut given, &mut output)
 }
 
 fn main(rt: HostRuntime) -> ExitCode {

@@ -1,7 +1,8 @@
 //! From the bytes of a scenario text to those of its listing.
-ghost use Rattle.std.specs.Prelude.{◌≡◌, ◌<◌, IfOk, IfSome, OnOk};
-ghost use Rattle.zy_text.specs.Text.{Means};
-ghost use Rattle.zy_first.specs.Runs.{WritesListing};
+ghost use Rattle.std.specs.Prelude.{◌<◌, IfErr, IfOk};
+ghost use Rattle.zy_io.specs.Inputs.{ReadsInput, streams};
+ghost use Rattle.zy_laws.specs.Throughout.{OwnedThroughout, SerialThroughout, StrictThroughout};
+ghost use Rattle.zy_first.specs.Runs.{IsFaultOf, IsTextOf, Lists, of_reading};
 
 use crate::faults::RunFault;
 use std::alloc::Global;
@@ -10,36 +11,48 @@ use zy_io::reading::read_all;
 use zy_io::{Sink, Source};
 use zy_isa::Scenario;
 use zy_listing::run::write_run;
+use zy_machine::Machine;
 
-/// Reads a scenario text whole, and returns its scenario. The bytes that were read are left in `input`.
-fn read_scenario<S: Source>(
-    alloc: Global,
-    source: &mut S,
-    input: &mut Vec<u8>,
-) -> Result<Scenario, RunFault>
-    requires { S.failures source.old < u64.MAX }
-    ensures { IfOk result (λ sc. IfSome (S.left source.old) (λ bytes. Means bytes sc)) }
+/// The scenario that a text means.
+fn accept(alloc: Global, text: &[u8]) -> Result<Scenario, RunFault>
+    ensures accepted { IfOk result (IsTextOf text.now) }
+    ensures fault { IfErr result (IsFaultOf text.now) }
 {
-    *input = read_all(alloc, source)?;
-    let scenario = assemble_bytes(alloc, input.as_slice())?;
+    let scenario = assemble_bytes(alloc, text)?;
     Ok(scenario)
 }
 
-/// Reads a scenario text whole, makes its choices, and writes its listing. The bytes that were read are left in `input`.
+/// Makes the choices of the scenario that a text means, writes its listing, and gives the machine that has made them. Nothing
+/// is written before the text is accepted.
+fn run_text<K: Sink>(alloc: Global, text: &[u8], sink: &mut K) -> Result<Machine, RunFault>
+    requires { K.failures sink.old < u64.MAX }
+    ensures run { Lists text.now (K.written sink.old) (K.written sink.new) (K.failures sink.old) (K.failures sink.new) result }
+    ensures owned { IfOk result (λ m. OwnedThroughout m.scenario m.scenario.choices) }
+    ensures strict { IfOk result (λ m. StrictThroughout m.scenario m.scenario.choices) }
+    ensures serial { IfOk result (λ m. SerialThroughout m.scenario m.scenario.choices) }
+{
+    let scenario = accept(alloc, text)?;
+    let machine = write_run(alloc, scenario, sink)?;
+    Ok(machine)
+}
+
+/// Reads a scenario text whole, makes its choices, writes its listing, and gives the machine that has made them. The bytes that
+/// were read are left in `input`.
 pub fn run<S: Source, K: Sink>(
     alloc: Global,
     source: &mut S,
     sink: &mut K,
     input: &mut Vec<u8>,
-) -> Result<(), RunFault>
+) -> Result<Machine, RunFault>
     requires { (S.failures source.old < u64.MAX) × (K.failures sink.old < u64.MAX) }
-    // At Ok the text means a scenario, and exactly its listing went out.
-    ensures written { OnOk result (WritesListing (S.left source.old) (K.written sink.old) (K.written sink.new)) }
-    // At Ok no call of the writer failed.
-    ensures writes { OnOk result (K.failures sink.new ≡ K.failures sink.old) }
+    ensures run { let at = streams S.left S.failures S.given K.written K.failures in
+        ReadsInput of_reading Lists (at source.old sink.old) (at source.new sink.new) result }
+    // At every point of the run each page is in one place, the run is strictly serializable, and under `held` the
+    // database is that of the commits one by one.
+    ensures owned { IfOk result (λ m. OwnedThroughout m.scenario m.scenario.choices) }
+    ensures strict { IfOk result (λ m. StrictThroughout m.scenario m.scenario.choices) }
+    ensures serial { IfOk result (λ m. SerialThroughout m.scenario m.scenario.choices) }
 {
-    let scenario = read_scenario(alloc, source, input)?;
-    let machine = write_run(alloc, scenario, sink)?;
-    machine.discard();
-    Ok(())
+    *input = read_all(alloc, source)?;
+    run_text(alloc, input.as_slice(), sink)
 }

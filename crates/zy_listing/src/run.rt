@@ -1,8 +1,7 @@
 //! A whole run: all choices of a scenario, and their listing.
-ghost use Rattle.std.specs.Prelude.{◌≡◌, ◌<◌, IfOk};
-ghost use Rattle.zy_io.specs.Writing.{Wrote};
-ghost use Rattle.zy_table.specs.Play.{entries, opening, play};
-ghost use Rattle.zy_listing.specs.Run.{listing_run};
+ghost use Rattle.std.specs.Prelude.{◌<◌};
+ghost use Rattle.zy_laws.specs.Throughout.{OwnedThroughout, SerialThroughout, StrictThroughout};
+ghost use Rattle.zy_listing.specs.Run.{listing_run, WroteRun};
 
 use crate::listing::write_listing;
 use std::alloc::Global;
@@ -17,13 +16,13 @@ pub fn write_run<K: Sink>(
     sink: &mut K,
 ) -> Result<Machine, TextFault>
     requires { K.failures sink.old < u64.MAX }
-    ensures wrote { Wrote (K.written sink.old) (K.written sink.new) (K.failures sink.old) (K.failures sink.new) result
-        (listing_run scenario) }
-    ensures machine { IfOk result (λ m. m ≡ record {
-      scenario = scenario;
-      state = play scenario (opening scenario) scenario.choices;
-      entries = entries scenario (opening scenario) scenario.choices;
-    }) }
+    ensures run { WroteRun listing_run scenario (K.written sink.old) (K.written sink.new) (K.failures sink.old)
+        (K.failures sink.new) result }
+    // At every point of the run each page is in one place, the run is strictly serializable, and under `held` the
+    // database is that of the commits one by one.
+    ensures owned { OwnedThroughout scenario scenario.choices }
+    ensures strict { StrictThroughout scenario scenario.choices }
+    ensures serial { SerialThroughout scenario scenario.choices }
 {
     let machine = Machine::run_all(alloc, scenario)?;
     match write_listing(alloc, &machine, sink) {

@@ -1,7 +1,7 @@
 //! The engine that looks for an order of logs.
 ghost use Rattle.std.specs.Prelude.{◌≡◌, ◌<◌, ◌≤◌, None, length};
 ghost use Rattle.zy_io.specs.Streams.{max_input};
-ghost use Rattle.zy_engine.specs.Engines.{ReadsInput, streams};
+ghost use Rattle.zy_io.specs.Inputs.{ReadsInput, streams};
 ghost use Rattle.zy_engine.specs.Searching.{history_of, WroteSome};
 ghost use Rattle.zy_ordering.specs.Faults.{of_reading};
 ghost use Rattle.zy_ordering.specs.Ordering.{Answers, CanFollow, IsAnswerOf, IsTextOf, WroteOrder};
