@@ -7,3 +7,4 @@ pub mod Throughout
 pub mod Orders
 pub mod SourceFirst
 pub mod RealTime
+pub mod WayOut

@@ -1,5 +1,5 @@
 //! What holds of the table over every schedule: each function is a law, and its contract is all of it.
-ghost use Rattle.std.specs.Prelude.{◌≡◌, ◌++◌, ℕ, List, length, true, false};
+ghost use Rattle.std.specs.Prelude.{◌≡◌, ◌≤◌, ◌++◌, ℕ, List, length, true, false};
 ghost use Rattle.zy_isa.specs.declared.version.Version.TheVariants.{One};
 ghost use Rattle.zy_isa.specs.declared.choice.Choice.{Choice as AChoice};
 ghost use Rattle.zy_isa.specs.declared.node.Node.{Node};
@@ -14,6 +14,7 @@ ghost use Rattle.zy_laws.specs.Journey.{OneWireframe, is_gone, is_stray};
 ghost use Rattle.zy_laws.specs.Travel.{NeverBack, NoneStarted, Travels};
 ghost use Rattle.zy_laws.specs.OneOwner.{OneOwner};
 ghost use Rattle.zy_laws.specs.Between.{NothingLeft};
+ghost use Rattle.zy_laws.specs.WayOut.{EachActs, Ended, NoneActive, NoneActs, Over, enough, way_out};
 ghost use Rattle.zy_table.specs.Holders.{ExclusiveAlone, HoldersActive};
 ghost use Rattle.zy_table.specs.Order.{InOrder};
 ghost use Rattle.zy_table.specs.Database.{ValuesAtPages, EachKeyHasPage, HasLows, RowsLie, database, newest};
@@ -102,6 +103,24 @@ pub fn nothing_left()
     ensures { (sc : Scenario) → IsScenario sc → (choices : List AChoice) (n : Node)
         → let v = facing n (play sc (opening sc) choices) in
         v.me.mode ≡ Empty → v.them.mode ≡ Normal → NothingLeft n v }
+{}
+
+/// No state is a dead end: whatever was chosen, its migration can still be ended. After the choices of `way_out` (each
+/// active transaction is killed; then messages are taken, and where none is left a node finishes or pushes) no
+/// transaction is active, the node that was the source is Empty and the other Normal, nothing is left of the migration,
+/// and commits and database are as they were. That anybody makes these choices is not said.
+pub fn no_dead_end()
+    ensures { (sc : Scenario) → IsScenario sc → (choices : List AChoice)
+        → let s = play sc (opening sc) choices in Ended s (play sc s (way_out sc s)) }
+{}
+
+/// What nodes do of themselves for a migration (take, finish, push) runs out, in whatever order it is chosen: of such
+/// choices, made one after another, no more than `enough` change the state; and where none of them would and no
+/// transaction is active, the migration is over. That anybody makes them is not said.
+pub fn own_choices_run_out()
+    ensures { (sc : Scenario) → IsScenario sc → (choices : List AChoice)
+        → let s = play sc (opening sc) choices in
+        ((more : List AChoice) → EachActs sc s more → length more ≤ enough s) × (NoneActive s → NoneActs sc s → Over s) }
 {}
 
 /// A transaction aborts as `gone` only at a source in the dual mode.

@@ -121,7 +121,7 @@ step_after sc was c s o h =
     }
 
 -- a schedule in two parts is played one part after the other
-play-append : (sc : Scenario) (s : State) (cs ds : List Choice) → play sc s (cs ++ ds) ≡ play sc (play sc s cs) ds
+pub play-append : (sc : Scenario) (s : State) (cs ds : List Choice) → play sc s (cs ++ ds) ≡ play sc (play sc s cs) ds
 play-append sc s [] ds = refl
 play-append sc s (c ∷ cs) ds = play-append sc (step sc c s).after cs ds
 
