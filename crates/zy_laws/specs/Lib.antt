@@ -8,3 +8,4 @@ pub mod Orders
 pub mod SourceFirst
 pub mod RealTime
 pub mod WayOut
+pub mod Views

@@ -1,5 +1,5 @@
 //! What holds of the table over every schedule: each function is a law, and its contract is all of it.
-ghost use Rattle.std.specs.Prelude.{◌≡◌, ◌≤◌, ◌++◌, ℕ, List, length, true, false};
+ghost use Rattle.std.specs.Prelude.{◌≡◌, ◌≤◌, ◌++◌, ℕ, List, length, slice_get, take, true, false};
 ghost use Rattle.zy_isa.specs.declared.version.Version.TheVariants.{One};
 ghost use Rattle.zy_isa.specs.declared.choice.Choice.{Choice as AChoice};
 ghost use Rattle.zy_isa.specs.declared.node.Node.{Node};
@@ -21,7 +21,14 @@ ghost use Rattle.zy_table.specs.Database.{ValuesAtPages, EachKeyHasPage, HasLows
 ghost use Rattle.zy_table.specs.Database.{all_leaves};
 ghost use Rattle.zy_laws.specs.Counts.{Safe, HasRoomAtCommit};
 ghost use Rattle.zy_table.specs.Serial.{CommitsListed, Serializable};
-ghost use Rattle.zy_laws.specs.RealTime.{KeepsRealTime};
+ghost use Rattle.std.specs.FinMap.{empty};
+ghost use Rattle.zy_table.specs.Change.{txn_or};
+ghost use Rattle.zy_table.specs.Client.{is_active, is_new};
+ghost use Rattle.zy_table.specs.declared.entry.CommitRecord.{CommitRecord};
+ghost use Rattle.zy_table.specs.Database.{laid};
+ghost use Rattle.zy_table.specs.Run.{program_of};
+ghost use Rattle.zy_laws.specs.RealTime.{BeginsInOrder, IsStable, KeepsRealTime, txns_after};
+ghost use Rattle.zy_laws.specs.Views.{AllEnd, AllSeen, HasPlace, IsAlone, commits_before, rows_after};
 ghost use Rattle.zy_laws.specs.SourceFirst.{SerialIn, at_node, commits_at, migration_order};
 
 /// The counts that make each sum and index safe: a transaction has done at most one instruction for each choice, it has
@@ -192,6 +199,60 @@ pub fn source_first()
 /// order of every longer schedule. With `source_first` this is strict serializability.
 pub fn real_time()
     ensures { (sc : Scenario) → IsScenario sc → (choices : List AChoice) → KeepsRealTime sc choices }
+{}
+
+/// Each lone run in the migration order is whole: it goes on to the commit of its transaction, which is its last
+/// instruction, and neither stops before it nor gives up.
+pub fn lone_runs_end()
+    ensures { (sc : Scenario) → IsScenario sc → (choices : List AChoice)
+        → AllEnd sc (laid sc.rows empty) (migration_order sc choices) }
+{}
+
+/// View equivalence: each read of a committed transaction gave what it gives in its lone run, for at each earlier point
+/// of the schedule at which the transaction was active it had the registers, the program counter and the private rows
+/// that its lone run has after as many instructions.
+pub fn committed_views()
+    ensures { (sc : Scenario) → IsScenario sc → (choices : List AChoice) (n : ℕ)
+        → AllSeen sc (txns_after sc choices n) (laid sc.rows empty) (migration_order sc choices) }
+{}
+
+/// Nobody sees what no serial run has, not even a transaction that aborts later: one that is active has come, now and at
+/// each earlier point at which it was active, as far as a lone run on the rows that a front of the migration order leaves.
+/// At a source these are the commits before the migration and those at its source, and else all.
+pub fn active_views()
+    ensures { (sc : Scenario) → IsScenario sc → (choices : List AChoice) (n t : ℕ)
+        → is_active (txn_or (slice_get (play sc (opening sc) choices).txns t)).status ≡ true
+        → is_active (txns_after sc choices n t).status ≡ true
+        → IsAlone (program_of sc t) (rows_after sc (commits_before sc choices t)) (txns_after sc choices n t) }
+{}
+
+/// Opacity: whoever is active, also if it aborts later, has a place among the commits of every longer schedule. On the
+/// rows that those before the place leave, its lone run comes as far as it was at each point at which it was active, and
+/// gives up next where its program makes it abort. Who had committed before it began stands before the place, and who
+/// begins later behind it.
+pub fn has_place()
+    ensures { (sc : Scenario) → IsScenario sc → (choices more : List AChoice) (t : ℕ)
+        → is_active (txn_or (slice_get (play sc (opening sc) choices).txns t)).status ≡ true
+        → HasPlace sc choices t (migration_order sc (choices ++ more)) }
+{}
+
+/// These places keep to real time, too: if transaction u is new after n of the choices, its place is not before that which
+/// t has by what it had seen after these n.
+pub fn places_in_time()
+    ensures { (sc : Scenario) (choices : List AChoice) (order : List CommitRecord) (n t u : ℕ)
+        → (p : HasPlace sc (take n choices) t order) → (q : HasPlace sc choices u order)
+        → is_new (txns_after sc choices n u).status ≡ true → p.ahead ≤ q.ahead }
+{}
+
+/// The migration order is stable: those that have committed keep their order, whatever commits later.
+pub fn stable_order()
+    ensures { (sc : Scenario) → IsScenario sc → (choices : List AChoice) → IsStable sc choices }
+{}
+
+/// Of two that commit at different nodes the one that began first stands first in the migration order. So, with
+/// `node_order`, the order of the begins and that of the commits at each node give the migration order.
+pub fn begins_in_order()
+    ensures { (sc : Scenario) → IsScenario sc → (choices : List AChoice) → BeginsInOrder sc choices }
 {}
 
 /// The migration order keeps the commits of each node in commit order.

@@ -145,7 +145,7 @@ gone_key x (r ∷ rows) all sub p e =
     ]
 
 -- the test of equal nodes is right
-same_node-true : (a b : Node) → same_node a b ≡ true → a ≡ b
+pub same_node-true : (a b : Node) → same_node a b ≡ true → a ≡ b
 same_node-true A A e = refl
 same_node-true A B e = absurd (false≢true e)
 same_node-true B A e = absurd (false≢true e)
