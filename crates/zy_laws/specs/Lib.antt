@@ -7,5 +7,6 @@ pub mod Throughout
 pub mod Orders
 pub mod SourceFirst
 pub mod RealTime
-pub mod WayOut
 pub mod Views
+pub mod Strict
+pub mod WayOut

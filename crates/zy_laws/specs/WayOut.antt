@@ -74,18 +74,18 @@ pub record Ended (s later : State) : Type 0 where
   pub commits : later.commits ≡ s.commits
   pub rows : database later ≡ database s
 
--- a take, a finish or a push: what a node does of itself for a migration
-abbrev pub is_own : Choice → Bool
-is_own (Take n) = true
-is_own (Finish n) = true
-is_own (Push n) = true
-is_own c = false
+-- a migration step: a take, a finish or a push, which a node does of itself
+abbrev pub is_migration_step : Choice → Bool
+is_migration_step (Take n) = true
+is_migration_step (Finish n) = true
+is_migration_step (Push n) = true
+is_migration_step c = false
 
--- each of these is such a choice, and changes the state that those before it lead to
+-- each of these is a migration step, and changes the state that those before it lead to
 abbrev pub EachActs : Scenario → State → List Choice → Type 0
 EachActs sc s [] = Unit {0}
-EachActs sc s (c ∷ cs) = (is_own c ≡ true) × ((step sc c s).after ≡ s → ⊥) × EachActs sc (step sc c s).after cs
+EachActs sc s (c ∷ cs) = (is_migration_step c ≡ true) × ((step sc c s).after ≡ s → ⊥) × EachActs sc (step sc c s).after cs
 
--- none of them would change the state
+-- no migration step would change the state
 abbrev pub NoneActs : Scenario → State → Type 0
-NoneActs sc s = (c : Choice) → is_own c ≡ true → (step sc c s).after ≡ s
+NoneActs sc s = (c : Choice) → is_migration_step c ≡ true → (step sc c s).after ≡ s

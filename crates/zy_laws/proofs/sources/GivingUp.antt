@@ -30,7 +30,7 @@ use Rattle.zy_table.specs.Run.{read_step, run_step, same_node, set_step, split_s
 use Rattle.zy_table.specs.Serial.{Alone, alone, alone_effect, alone_instr, alone_step, gives_up, goes_on}
 use Rattle.zy_table.specs.State.{Lock, Move, Txn, View}
 use Rattle.zy_laws.specs.SourceFirst.{Sorted}
-use Rattle.zy_laws.specs.Views.{GivesUp, by_program}
+use Rattle.zy_laws.specs.Views.{GivesUp, is_by_program}
 use Rattle.zy_laws.proofs.serial.Following.{Follows}
 use Rattle.zy_laws.proofs.serial.LoneRuns.{Agree, Lone, OnMap, agree_back, agree_front, get-laid, lone, lone_alike, lone_at, on_map, or_else}
 use Rattle.zy_laws.proofs.sources.Going.{mine_on, there_on}
@@ -50,7 +50,7 @@ pub record Gives (v : View) (d : Map) (x : Txn) (e : Effect) : Type 0 where
 
 -- of a step that does not end in such an abort nothing is to be shown
 abbrev Shows : View → Map → Txn → Effect → Move → Type 0
-Shows v d x e z = by_program z.outcome ≡ true → Gives v d x e
+Shows v d x e z = is_by_program z.outcome ≡ true → Gives v d x e
 
 -- without a look
 blind : {v : View} {d : Map} {x : Txn} {e : Effect} → ((m : Map) → alone_effect m e (stands_at m x) ≡ gives_up m (stands_at m x)) → Gives v d x e
@@ -69,33 +69,33 @@ at_key {v = v} k own ends = record {
 }
 
 -- no page is such an abort
-absent_other : (t p : ℕ) (v : View) → by_program (absent_step t p v).outcome ≡ true → ⊥
+absent_other : (t p : ℕ) (v : View) → is_by_program (absent_step t p v).outcome ≡ true → ⊥
 unfolding absent_step abort_step
 absent_other t p v =
-    cond_both (not (may_pull v.me.mode)) _ _ (λ (z : Move). by_program z.outcome ≡ true → ⊥) (λ _ is. false≢true is)
-    (λ _. cond_both (has v.me.asked p) _ _ (λ (z : Move). by_program z.outcome ≡ true → ⊥) (λ _ is. false≢true is) (λ _ is. false≢true is))
+    cond_both (not (may_pull v.me.mode)) _ _ (λ (z : Move). is_by_program z.outcome ≡ true → ⊥) (λ _ is. false≢true is)
+    (λ _. cond_both (has v.me.asked p) _ _ (λ (z : Move). is_by_program z.outcome ≡ true → ⊥) (λ _ is. false≢true is) (λ _ is. false≢true is))
 
 -- nor is a commit
-commit_other : (t : ℕ) (gone : Option ℕ) (v : View) → by_program (commit_or_gone t gone v).outcome ≡ true → ⊥
+commit_other : (t : ℕ) (gone : Option ℕ) (v : View) → is_by_program (commit_or_gone t gone v).outcome ≡ true → ⊥
 unfolding commit_or_gone abort_step
 commit_other t (Some p) v is = false≢true is
 commit_other t None v is = false≢true is
 
 -- nor a full page
-full_other : (sc : Scenario) (t k p : ℕ) (v : View) → by_program (full_step sc t k p v).outcome ≡ true → ⊥
+full_other : (sc : Scenario) (t k p : ℕ) (v : View) → is_by_program (full_step sc t k p v).outcome ≡ true → ⊥
 unfolding full_step abort_step split_step
 full_other sc t k p v =
-    cond_both (not (may_split v.me.mode)) _ _ (λ (z : Move). by_program z.outcome ≡ true → ⊥) (λ _ is. false≢true is)
-    (λ _. cond_both (nat_le sc.pages (length v.me.lows)) _ _ (λ (z : Move). by_program z.outcome ≡ true → ⊥) (λ _ is. false≢true is) (λ _ is. false≢true is))
+    cond_both (not (may_split v.me.mode)) _ _ (λ (z : Move). is_by_program z.outcome ≡ true → ⊥) (λ _ is. false≢true is)
+    (λ _. cond_both (nat_le sc.pages (length v.me.lows)) _ _ (λ (z : Move). is_by_program z.outcome ≡ true → ⊥) (λ _ is. false≢true is) (λ _ is. false≢true is))
 
 -- nor a sum over keys
-waits_other : (t : ℕ) (r : Reg) (a b : ℕ) (taken : Option ℕ) (v : View) → by_program (sum_or_waits t r a b taken v).outcome ≡ true → ⊥
+waits_other : (t : ℕ) (r : Reg) (a b : ℕ) (taken : Option ℕ) (v : View) → is_by_program (sum_or_waits t r a b taken v).outcome ≡ true → ⊥
 unfolding sum_or_waits sum_step set_step
 waits_other t r a b (Some p) v is = false≢true is
 waits_other t r a b None v is = false≢true is
 
 -- whose pages are here, or not
-asks_other : (t : ℕ) (r : Reg) (a b : ℕ) (absent : Option ℕ) (v : View) → by_program (sum_or_asks t r a b absent v).outcome ≡ true → ⊥
+asks_other : (t : ℕ) (r : Reg) (a b : ℕ) (absent : Option ℕ) (v : View) → is_by_program (sum_or_asks t r a b absent v).outcome ≡ true → ⊥
 unfolding sum_or_asks
 asks_other t r a b (Some p) v is = absent_other t p v is
 asks_other t r a b None v is = waits_other t r a b (first_taken v.me.locks t (range_pages v.me.lows a b)) v is
@@ -164,20 +164,20 @@ module _ (sc : Scenario) (n : Node) (v : View) (start : Map) (lows : List ℕ) (
     pub gives : Gives v d x (effect_of instr x.regs)
 
   -- if there is one
-  instr_gives : (i : Option Instr) → by_program (instr_step sc t i x.regs v).outcome ≡ true → Next i
+  instr_gives : (i : Option Instr) → is_by_program (instr_step sc t i x.regs v).outcome ≡ true → Next i
   unfolding instr_step
   instr_gives None is = absurd (false≢true is)
   instr_gives (Some i) is = record { instr = i; is = refl; gives = effect_gives (effect_of i x.regs) is }
 
   -- the step of a run
-  pub run_gives : by_program (run_step sc n t v).outcome ≡ true → Next (slice_get (program_of sc t) x.pc)
+  pub run_gives : is_by_program (run_step sc n t v).outcome ≡ true → Next (slice_get (program_of sc t) x.pc)
   unfolding run_step
   run_gives =
-      cond_both (not (is_active x.status)) _ _ (λ (z : Move). by_program z.outcome ≡ true → Next (slice_get (program_of sc t) x.pc))
+      cond_both (not (is_active x.status)) _ _ (λ (z : Move). is_by_program z.outcome ≡ true → Next (slice_get (program_of sc t) x.pc))
       (λ _ is. absurd (false≢true is))
-      (λ _. cond_both (not (same_node x.node n)) _ _ (λ (z : Move). by_program z.outcome ≡ true → Next (slice_get (program_of sc t) x.pc))
+      (λ _. cond_both (not (same_node x.node n)) _ _ (λ (z : Move). is_by_program z.outcome ≡ true → Next (slice_get (program_of sc t) x.pc))
       (λ _ is. absurd (false≢true is))
-      (λ _. cond_both (is_waiting v.me.mode) _ _ (λ (z : Move). by_program z.outcome ≡ true → Next (slice_get (program_of sc t) x.pc))
+      (λ _. cond_both (is_waiting v.me.mode) _ _ (λ (z : Move). is_by_program z.outcome ≡ true → Next (slice_get (program_of sc t) x.pc))
       (λ _ is. absurd (false≢true is)) (λ _. instr_gives (slice_get (program_of sc t) x.pc))))
 
 -- a transaction that follows its lone run and gives up does so on each map that has the same at the keys that it has touched and looks at

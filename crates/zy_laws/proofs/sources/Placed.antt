@@ -26,7 +26,7 @@ use Rattle.zy_table.specs.State.{State, Txn, View, facing, seen_from}
 use Rattle.zy_table.proofs.RangeLists.{has_either}
 use Rattle.zy_laws.specs.RealTime.{place, txns_after}
 use Rattle.zy_laws.specs.SourceFirst.{Sorted, migration_order, sorted, sorted_step}
-use Rattle.zy_laws.specs.Views.{GivesUp, HasPlace, IsAlone, by_program, rows_after}
+use Rattle.zy_laws.specs.Views.{GivesUp, HasPlace, IsOnLoneRun, is_by_program, rows_after}
 use Rattle.zy_laws.proofs.locks.Reached.{lows_then}
 use Rattle.zy_laws.proofs.order.ListsInOrder.{Tidy, opening_tidy, step_tidy}
 use Rattle.zy_laws.proofs.places.Opening.{opening_database}
@@ -40,7 +40,7 @@ use Rattle.zy_laws.proofs.sources.Halves.{Divided, base, page_here}
 use Rattle.zy_laws.proofs.sources.Histories.{Past, past_keys, past_same}
 use Rattle.zy_laws.proofs.sources.Places.{NoneIs, listed_both, listed_permuted, none_listed, place_back, place_front}
 use Rattle.zy_laws.proofs.sources.RealTime.{After, after_both, listed_once, none_new, sorted-append, step_after, timed_from}
-use Rattle.zy_laws.proofs.sources.Seen.{Known, as_alone, db_from, known}
+use Rattle.zy_laws.proofs.sources.Seen.{Known, on_lone_run, db_from, known}
 use Rattle.zy_laws.proofs.sources.Sides.{divided_from, none}
 use Rattle.zy_laws.proofs.sources.Sorting.{sorted_after}
 use Rattle.zy_laws.proofs.sources.SourceFirst.{reached_holds, sorted-keeps, step_divided, then_step}
@@ -123,12 +123,12 @@ firm_by was v o t u true (Ends_in_later early more is f b r mine theirs) old new
 record Looking (sc : Scenario) (n : Node) (v : View) (d : Map) (keys : List ℕ) (t : ℕ) : Type 0 where
   looks : List ℕ
   here : (k : ℕ) → has looks k ≡ true → owns v.me.pages (page_of v.me.lows k) ≡ true
-  ends : by_program (run_step sc n t v).outcome ≡ true → (e : Map) → Agree d e (looks ++ keys) → GivesUp (program_of sc t) e (txn_at v t)
+  ends : is_by_program (run_step sc n t v).outcome ≡ true → (e : Map) → Agree d e (looks ++ keys) → GivesUp (program_of sc t) e (txn_at v t)
 
 -- each transaction that runs does
 looking : (sc : Scenario) (n : Node) (v : View) (start : Map) (lows : List ℕ) (o : Sorted) (s : Divided sc n v start lows o) (t : ℕ) → (a : IsAt v t n)
     → Looking sc n v (base (is_source v.me.mode) (serial sc start o.first) (db v)) (s.mine.runs t a).keys t
-looking sc n v start lows o s t a = elim (cases_Bool (by_program (run_step sc n t v).outcome)) [
+looking sc n v start lows o s t a = elim (cases_Bool (is_by_program (run_step sc n t v).outcome)) [
   | inl is ↦
       let next = run_gives sc n v start lows o s t a is in
       record {
@@ -160,7 +160,7 @@ record Starting (sc : Scenario) (start : Map) (s : State) (lows : List ℕ) (o :
       → Past (program_of sc t) e (txn_at (facing A s) t).done (was t)
   firm : (was : ℕ → Txn) → After was s o → (u : ℕ) → is_new (was t).status ≡ true → is_committed (was u).status ≡ true
       → times_listed u (o.first ++ o.later) ≡ 1 → 1 ≤ times_listed u least
-  ends : by_program (step sc (Run m t) s).outcome ≡ true → (e : Map) → Agree d e keys → GivesUp (program_of sc t) e (txn_at (facing A s) t)
+  ends : is_by_program (step sc (Run m t) s).outcome ≡ true → (e : Map) → Agree d e keys → GivesUp (program_of sc t) e (txn_at (facing A s) t)
 
 -- by its node
 starting : (sc : Scenario) (start : Map) (s : State) (lows : List ℕ) (o : Sorted) (t : ℕ) (m : Node) → Divided sc A (facing A s) start lows o
@@ -356,9 +356,9 @@ placed_by sc l cs t order lows g f once =
       seen = λ n old.
           let x = txns_after sc cs n in
           let m = serial sc (database (opening sc)) f.front in
-          subst (λ xs. IsAlone (program_of sc t) (rows_after sc xs) (x t)) (sym front_is)
-          (subst (λ d. IsAlone (program_of sc t) (serial sc d f.front) (x t)) (opening_database sc l)
-          (as_alone (program_of sc t) m (txn_at (facing A s) t).done (x t) (g.lies x (known sc l cs n) old m f.fact.agree)));
+          subst (λ xs. IsOnLoneRun (program_of sc t) (rows_after sc xs) (x t)) (sym front_is)
+          (subst (λ d. IsOnLoneRun (program_of sc t) (serial sc d f.front) (x t)) (opening_database sc l)
+          (on_lone_run (program_of sc t) m (txn_at (facing A s) t).done (x t) (g.lies x (known sc l cs n) old m f.fact.agree)));
       ends = λ is.
           let x = txn_or (slice_get s.txns t) in
           let m = serial sc (database (opening sc)) f.front in

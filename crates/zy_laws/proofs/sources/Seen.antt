@@ -24,7 +24,7 @@ use Rattle.zy_table.specs.Serial.{Registers, alone, serial}
 use Rattle.zy_table.specs.State.{State, Txn, View, facing, other, seen_from}
 use Rattle.zy_laws.specs.RealTime.{txns_after}
 use Rattle.zy_laws.specs.SourceFirst.{Sorted, migration_order, sorted, sorted_step}
-use Rattle.zy_laws.specs.Views.{AllEnd, AllSeen, IsAlone, commits_before, rows_after}
+use Rattle.zy_laws.specs.Views.{AllEnd, AllSeen, IsOnLoneRun, commits_before, rows_after}
 use Rattle.zy_laws.proofs.locks.Locking.{whole}
 use Rattle.zy_laws.proofs.order.ListsInOrder.{Tidy, opening_tidy, step_tidy}
 use Rattle.zy_laws.proofs.owner.Roles.{Owned, turned}
@@ -205,8 +205,8 @@ all_end sc was m (c ∷ cs) h =
     )
 
 -- a transaction that lies on its lone run has come as far as it
-pub as_alone : (program : List Instr) (m : Map) (done : ℕ) (x : Txn) → Past program m done x → IsAlone program m x
-as_alone program m done x p =
+pub on_lone_run : (program : List Instr) (m : Map) (done : ℕ) (x : Txn) → Past program m done x → IsOnLoneRun program m x
+on_lone_run program m done x p =
     let run = on_map m program x.done (ap (λ (y : Lone). y.over) p.run) in
     record {
       on = run.over;
@@ -219,7 +219,7 @@ as_alone program m done x p =
 all_seen : (sc : Scenario) (was : ℕ → Txn) (m : Map) (cs : List CommitRecord) → Entires sc was m cs → AllSeen sc was m cs
 all_seen sc was m [] h = tt
 all_seen sc was m (c ∷ cs) h = (
-  λ active. as_alone (program_of sc c.txn) m h.0.before (was c.txn) (h.0.past active),
+  λ active. on_lone_run (program_of sc c.txn) m h.0.before (was c.txn) (h.0.past active),
   all_seen sc was (alone m (program_of sc c.txn) c.done).map cs h.1,
 )
 
@@ -254,12 +254,12 @@ past_at sc was start s o t B k a active =
 -- the law: each active transaction had come as far as its lone run on the commits that it has before it
 pub active_views : (sc : Scenario) → IsScenario sc → (cs : List Choice) (n t : ℕ)
     → is_active (txn_or (slice_get (play sc (opening sc) cs).txns t)).status ≡ true → is_active (txns_after sc cs n t).status ≡ true
-    → IsAlone (program_of sc t) (rows_after sc (commits_before sc cs t)) (txns_after sc cs n t)
+    → IsOnLoneRun (program_of sc t) (rows_after sc (commits_before sc cs t)) (txns_after sc cs n t)
 unfolding txn_at
 active_views sc l cs n t now active =
     let s = play sc (opening sc) cs in
     let o = sorted sc (opening sc) cs none in
     let x = txn_or (slice_get s.txns t) in
     let p = past_at sc (txns_after sc cs n) (database (opening sc)) s o t x.node (known sc l cs n) (now, refl) active in
-    subst (λ m. IsAlone (program_of sc t) (serial sc m (commits_before sc cs t)) (txns_after sc cs n t)) (opening_database sc l)
-    (as_alone (program_of sc t) (serial sc (database (opening sc)) (commits_before sc cs t)) x.done (txns_after sc cs n t) p)
+    subst (λ m. IsOnLoneRun (program_of sc t) (serial sc m (commits_before sc cs t)) (txns_after sc cs n t)) (opening_database sc l)
+    (on_lone_run (program_of sc t) (serial sc (database (opening sc)) (commits_before sc cs t)) x.done (txns_after sc cs n t) p)

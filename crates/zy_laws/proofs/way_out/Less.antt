@@ -25,7 +25,7 @@ use Rattle.zy_table.specs.Push.{active_from, finish_if, finish_step, push_if, pu
 use Rattle.zy_table.specs.State.{Leaf, Message, Move, NodeState, State, View, facing, seen_from}
 use Rattle.zy_table.specs.Take.{all_here, arrival_step, front_step, is_held, message_step, mode_line, pull_step, take_step, with_brought}
 use Rattle.zy_table.proofs.PageLists.{least-owns}
-use Rattle.zy_laws.specs.WayOut.{is_own}
+use Rattle.zy_laws.specs.WayOut.{is_migration_step}
 use Rattle.zy_laws.proofs.walk.Conditions.{Front, rest}
 use Rattle.zy_laws.proofs.walk.ModeLines.{done_line, dual_line, finish_line, page_line, pull_line, pulls_in, pushes_in_finish, ready_line, wire_line}
 
@@ -362,13 +362,13 @@ push_any v =
     (λ on. elim (push_by _ v refl (ap is_sending (pushes_in_finish v.me.mode on))) [ inl none ↦ inl none.0 | inr k ↦ inr k ])
     (λ off. inl refl)
 
--- each own choice of a node does
-own_moves : (sc : Scenario) (c : Choice) (v : View) → is_own c ≡ true → Moves v (move sc c v).after
+-- each migration step does
+migration_moves : (sc : Scenario) (c : Choice) (v : View) → is_migration_step c ≡ true → Moves v (move sc c v).after
 unfolding move finish_step
-own_moves sc (Take n) v h = take_by sc v v.inbox refl
-own_moves sc (Finish_at n) v h = finish_by v.me.mode (active_from n 0 v.txns) _ v refl
-own_moves sc (Push n) v h = push_any v
-own_moves sc c v h = absurd (false≢true h)
+migration_moves sc (Take n) v h = take_by sc v v.inbox refl
+migration_moves sc (Finish_at n) v h = finish_by v.me.mode (active_from n 0 v.txns) _ v refl
+migration_moves sc (Push n) v h = push_any v
+migration_moves sc c v h = absurd (false≢true h)
 
 -- a source stays one through a step, or is Empty then, and the other node is as it was
 abbrev pub StaysSource : Node → State → State → Type 0
@@ -400,11 +400,11 @@ same_back : (n : Node) (s : State) (w : View) → w ≡ facing n s → seen_from
 same_back A s w e = ap (seen_from A) e
 same_back B s w e = ap (seen_from B) e
 
--- so each own choice leaves the state, or less to do
-pub own_step : (sc : Scenario) (c : Choice) (s : State) → is_own c ≡ true → ((step sc c s).after ≡ s) ⊎ Lowered s (step sc c s).after
+-- so each migration step leaves the state, or less to do
+pub migration_step : (sc : Scenario) (c : Choice) (s : State) → is_migration_step c ≡ true → ((step sc c s).after ≡ s) ⊎ Lowered s (step sc c s).after
 unfolding step
-own_step sc c s h =
+migration_step sc c s h =
     let n = side_of sc c s in
     let v = facing n s in
     let w = (move sc c v).after in
-    elim (own_moves sc c v h) [ inl same ↦ inl (same_back n s w same) | inr k ↦ inr (lowered n s w k) ]
+    elim (migration_moves sc c v h) [ inl same ↦ inl (same_back n s w same) | inr k ↦ inr (lowered n s w k) ]

@@ -21,7 +21,7 @@ use Rattle.zy_table.specs.State.{Leaf, Message, NodeState, State, Txn, View, fac
 use Rattle.zy_table.specs.Take.{take_step}
 use Rattle.zy_laws.specs.Between.{NothingLeft}
 use Rattle.zy_laws.specs.OneOwner.{times}
-use Rattle.zy_laws.specs.WayOut.{EachActs, Ended, NoneActive, NoneActs, Over, is_own, enough, kills, led_by, next, next_by, onward, way_out}
+use Rattle.zy_laws.specs.WayOut.{EachActs, Ended, NoneActive, NoneActs, Over, is_migration_step, enough, kills, led_by, next, next_by, onward, way_out}
 use Rattle.zy_laws.proofs.locks.Reached.{holders_active}
 use Rattle.zy_laws.proofs.owner.OneOwner.{inv_from, play_inv}
 use Rattle.zy_laws.proofs.owner.PageCounts.{owns_from, times_sent}
@@ -36,7 +36,7 @@ use Rattle.zy_laws.proofs.walk.Txns.{at_side}
 use Rattle.zy_laws.proofs.wireframe.OneWireframe.{one_of}
 use Rattle.zy_laws.proofs.way_out.Kills.{From, Keeps, all_killed, from_step, keeps_none, keeps_on, on, step_keeps}
 use Rattle.zy_laws.proofs.way_out.Lacking.{BothLack, Lacking, lacking_them, one_missing, play_lacks}
-use Rattle.zy_laws.proofs.way_out.Less.{Lowered, cost, finishes_less, left, lowered, own_step, pushes_less, take_less}
+use Rattle.zy_laws.proofs.way_out.Less.{Lowered, cost, finishes_less, left, lowered, migration_step, pushes_less, take_less}
 
 -- what is known of a state that a schedule leads to
 record Known (s : State) : Type 0 where
@@ -171,7 +171,7 @@ over_by s k idle ab ba a b (Destination ph) =
 -- a state is at the end, or what comes next leaves less to do
 data Ahead (sc : Scenario) (s : State) : Type 0 where
   At_end : Over s → next s ≡ None → Ahead sc s
-  Goes_on : (c : Choice) → next s ≡ Some c → is_own c ≡ true → Lowered s (step sc c s).after → Ahead sc s
+  Goes_on : (c : Choice) → next s ≡ Some c → is_migration_step c ≡ true → Lowered s (step sc c s).after → Ahead sc s
 
 -- each state is, where no transaction is active
 ahead : (sc : Scenario) (s : State) → Known s → NoneActive s → Ahead sc s
@@ -243,14 +243,14 @@ ends : (sc : Scenario) → IsScenario sc → (n : ℕ) (s : State) → From sc s
 ends sc ok zero s f idle most =
     elim (ahead sc s (known sc ok s f) idle) [
       | At_end over none ↦ ends_here s over
-      | Goes_on c is own low ↦ let less = low.less in absurd (omega (arith, less, most))
+      | Goes_on c is moves low ↦ let less = low.less in absurd (omega (arith, less, most))
     ]
 ends sc ok (suc n) s f idle most =
     let to : Option Choice → Type 0 = λ o. Ending s (play sc s (led_by o (λ c. onward sc n (step sc c s).after))) in
     let k = known sc ok s f in
     elim (ahead sc s k idle) [
       | At_end over none ↦ subst to (sym none) (ends_here s over)
-      | Goes_on c is own low ↦
+      | Goes_on c is moves low ↦
           let w = (step sc c s).after in
           let after = from_step sc c s f in
           let less = low.less in
@@ -296,27 +296,27 @@ no_dead_end sc ok cs =
       rows = keeps.data_same;
     })
 
--- own choices that act are no more than is left
+-- migration steps that act are no more than is left
 acts_most : (sc : Scenario) (cs : List Choice) (s : State) → EachActs sc s cs → length cs ≤ left (facing A s)
 acts_most sc [] s h = omega arith
 acts_most sc (c ∷ cs) s h =
-    elim (own_step sc c s h.0) [
+    elim (migration_step sc c s h.0) [
       | inl same ↦ absurd (h.1 same)
       | inr low ↦ let less = low.less in let most = acts_most sc cs (step sc c s).after h.2 in omega (arith, less, most)
     ]
 
--- where none is active and no own choice would act, the migration is over
+-- where none is active and no migration step would act, the migration is over
 settled : (sc : Scenario) → IsScenario sc → (s : State) → From sc s → NoneActive s → NoneActs sc s → Over s
 settled sc ok s f idle none =
     elim (ahead sc s (known sc ok s f) idle) [
       | At_end over e ↦ over
-      | Goes_on c is own low ↦ let less = low.less in let same = ap (λ (z : State). left (facing A z)) (none c own) in absurd (omega (arith, less, same))
+      | Goes_on c is moves low ↦ let less = low.less in let same = ap (λ (z : State). left (facing A z)) (none c moves) in absurd (omega (arith, less, same))
     ]
 
--- the law: own choices run out, and where they have the migration is over
-pub own_choices_run_out : (sc : Scenario) → IsScenario sc → (cs : List Choice) → let s = play sc (opening sc) cs in
+-- the law: migration steps run out, and where they have the migration is over
+pub migration_steps_run_out : (sc : Scenario) → IsScenario sc → (cs : List Choice) → let s = play sc (opening sc) cs in
     ((more : List Choice) → EachActs sc s more → length more ≤ enough s) × (NoneActive s → NoneActs sc s → Over s)
-own_choices_run_out sc ok cs =
+migration_steps_run_out sc ok cs =
     let s = play sc (opening sc) cs in
     let most = left_enough s in
     ((λ more acts. let few = acts_most sc more s acts in omega (arith, few, most)), settled sc ok s (record { choices = cs; is = refl }))
