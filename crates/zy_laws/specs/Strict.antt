@@ -10,7 +10,7 @@ use Rattle.zy_laws.specs.RealTime.{IsStable, KeepsRealTime, txns_after}
 use Rattle.zy_laws.specs.SourceFirst.{SerialIn, migration_order}
 use Rattle.zy_laws.specs.Views.{AllEnd, AllSeen, HasPlace}
 
--- opacity: whoever is active after some of the choices, also one that aborts later, has a place in the migration order of
+-- opacity: whoever is active after some of the choices, even if it aborts later, has a place in the migration order of
 -- all, by what it has seen until then
 abbrev pub AllPlaced : Scenario → List Choice → Type 0
 AllPlaced sc choices = (n t : ℕ) → is_active (txns_after sc choices n t).status ≡ true
@@ -22,7 +22,7 @@ pub record StrictlySerializable (sc : Scenario) (choices : List Choice) : Type 0
   pub serial : SerialIn (migration_order sc choices) sc (play sc (opening sc) choices)
   -- each of these lone runs ends by its commit
   pub ended : AllEnd sc (laid sc.rows empty) (migration_order sc choices)
-  -- view equivalence: each committed transaction was on its lone run wherever it was active
+  -- view equivalence: each committed transaction was on its lone run at each point at which it was active
   pub seen : (n : ℕ) → AllSeen sc (txns_after sc choices n) (laid sc.rows empty) (migration_order sc choices)
   pub placed : AllPlaced sc choices
   pub real_time : KeepsRealTime sc choices

@@ -66,27 +66,27 @@ AllSeen sc was m (c ∷ cs) =
 abbrev pub rows_after : Scenario → List CommitRecord → Map
 rows_after sc cs = serial sc (laid sc.rows empty) cs
 
--- the commits that transaction t, which is active, has before it after these choices: if its node is a source, those
--- before the migration and those at its source, and else all
+-- the commits that stand before an active transaction t after these choices: at a source those before the migration and
+-- those at the source, elsewhere all
 abbrev pub commits_before : Scenario → List Choice → ℕ → List CommitRecord
 commits_before sc choices t =
     let s = play sc (opening sc) choices in
     let o = sorted sc (opening sc) choices (record { first = []; later = [] }) in
     if is_source (facing (txn_or (slice_get s.txns t)).node s).me.mode then o.first else o.first ++ o.later
 
--- a place in an order of commits for transaction t, by what it has seen in these choices: behind the first `ahead` of them
+-- a place in an order of commits for transaction t, by what it has seen in these choices: behind the first `ahead` commits
 pub record HasPlace (sc : Scenario) (choices : List Choice) (t : ℕ) (order : List CommitRecord) : Type 0 where
   pub ahead : ℕ
-  -- wherever t was active, it was on its lone run from the rows that those before the place leave
+  -- at each point at which t was active, it was on its lone run from the rows that these commits leave
   pub seen : (n : ℕ) → let x = txns_after sc choices n t in
       is_active x.status ≡ true → IsOnLoneRun (program_of sc t) (rows_after sc (take ahead order)) x
-  -- if its program makes t abort next, that run gives up next
+  -- if its program makes t abort with its next instruction, that run gives up there
   pub ends : let s = play sc (opening sc) choices in let x = txns_now sc choices t in
       is_by_program (step sc (Run x.node t) s).outcome ≡ true → GivesUp (program_of sc t) (rows_after sc (take ahead order)) x
-  -- whoever had committed before t began stands before the place
+  -- who had committed before t began stands before the place
   pub begun : (n u : ℕ) → let x = txns_after sc choices n in
       is_new (x t).status ≡ true → is_committed (x u).status ≡ true → place u order < ahead
-  -- whoever has not begun stands behind it
+  -- who has not begun stands behind it
   pub later : (u : ℕ) → is_new (txns_now sc choices u).status ≡ true → ahead ≤ place u order
-  -- the last one before it, if there is one, has committed
+  -- the last commit before it, if there is one, has been made
   pub close : (ahead ≡ 0) ⊎ ((u : ℕ) × (is_committed (txns_now sc choices u).status ≡ true) × (ahead ≡ suc (place u order)))

@@ -1,4 +1,4 @@
--- A way out of each state: choices that end its migration. That somebody makes them is not said.
+-- A way out of each state: choices that end its migration. It is not said that anybody makes them.
 use Rattle.std.specs.Prelude.{ℕ, zero, suc, ◌+◌, ◌≡◌, List, [], ◌∷◌, ◌++◌, length, if◌then◌else◌, Option, Some, None, Bool, true, false}
 use Rattle.std.specs.Prelude.{slice_get}
 use Rattle.zy_isa.specs.declared.node.Node.{Node}
@@ -21,8 +21,8 @@ abbrev pub kills : ℕ → List Txn → List Choice
 kills t [] = []
 kills t (x ∷ xs) = if is_active x.status then Kill t ∷ kills (t + 1) xs else kills (t + 1) xs
 
--- what comes next, by the links from A to B and back and by the modes of A and B: what is on its way is taken, and where
--- nothing is, a node in SDual finishes and one in SFinish pushes
+-- what comes next, by the links from A to B and back and by the modes of A and B: a message is taken, and if there is
+-- none, a node in SDual finishes and one in SFinish pushes
 abbrev pub next_by : List Message → List Message → NodeMode → NodeMode → Option Choice
 next_by (m ∷ ms) ba a b = Some (Take B)
 next_by [] (m ∷ ms) a b = Some (Take A)
@@ -32,7 +32,7 @@ next_by [] [] a SDual = Some (Finish B)
 next_by [] [] a SFinish = Some (Push B)
 next_by [] [] a b = None
 
--- in a state
+-- what comes next in a state
 abbrev pub next : State → Option Choice
 next s = next_by s.ab s.ba s.a.mode s.b.mode
 
