@@ -46,7 +46,7 @@ for contracts between crates, of which the promises name some. Of the standard l
 strings, memory and streams, and for `order --json` those of JSON in the library `json`.
 
 For the first theorem of the README read the first two parts: it is the contract of `run_all` in
-[`zy_machine`](../crates/zy_machine/src/machine.rt), and the laws `source_first`, `real_time`, `one_owner` and `serializable` in
+[`zy_machine`](../crates/zy_machine/src/machine.rt), and the laws `strictly_serializable`, `one_owner`, `serializable` and `no_dead_end` in
 [`zy_laws`](../crates/zy_laws/src/laws.rt). [The promises](promises.md) name the function of each theorem, and [the step table](step-table.md) the definition,
 function and proof of each of its lines.
 

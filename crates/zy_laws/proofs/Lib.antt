@@ -9,3 +9,4 @@ pub mod room
 pub mod counts
 pub mod serial
 pub mod sources
+pub mod way_out

@@ -13,3 +13,12 @@ pub mod Places
 pub mod Beginnings
 pub mod Timed
 pub mod RealTime
+pub mod Histories
+pub mod Seen
+pub mod Stable
+pub mod Standing
+pub mod GivingUp
+pub mod Placed
+pub mod Past
+pub mod Rank
+pub mod BeginOrder

@@ -7,3 +7,6 @@ pub mod Throughout
 pub mod Orders
 pub mod SourceFirst
 pub mod RealTime
+pub mod Views
+pub mod Strict
+pub mod WayOut

@@ -6,7 +6,8 @@ use Rattle.zy_isa.specs.Scenario.{Scenario}
 use Rattle.zy_table.specs.Play.{play, opening}
 use Rattle.zy_table.specs.Serial.{Serializable}
 use Rattle.zy_laws.specs.OneOwner.{OneOwner}
-use Rattle.zy_laws.specs.RealTime.{StrictlySerializable}
+use Rattle.zy_laws.specs.Strict.{StrictlySerializable}
+use Rattle.zy_laws.specs.WayOut.{Ended, way_out}
 
 -- each page is in one place: at a node or in one message
 abbrev pub OwnedThroughout : Scenario → List Choice → Type 0
@@ -19,3 +20,7 @@ StrictThroughout sc choices = (n : ℕ) → StrictlySerializable sc (take n choi
 -- under held the database is that of the committed programs, run one by one in commit order
 abbrev pub SerialThroughout : Scenario → List Choice → Type 0
 SerialThroughout sc choices = sc.rule ≡ Held → (n : ℕ) → Serializable sc (play sc (opening sc) (take n choices))
+
+-- the migration can be ended
+abbrev pub CanEndThroughout : Scenario → List Choice → Type 0
+CanEndThroughout sc choices = (n : ℕ) → let s = play sc (opening sc) (take n choices) in Ended s (play sc s (way_out sc s))

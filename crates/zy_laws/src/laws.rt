@@ -1,5 +1,5 @@
 //! What holds of the table over every schedule: each function is a law, and its contract is all of it.
-ghost use Rattle.std.specs.Prelude.{◌≡◌, ◌++◌, ℕ, List, length, true, false};
+ghost use Rattle.std.specs.Prelude.{◌≡◌, ◌≤◌, ◌++◌, ℕ, List, length, take, true, false};
 ghost use Rattle.zy_isa.specs.declared.version.Version.TheVariants.{One};
 ghost use Rattle.zy_isa.specs.declared.choice.Choice.{Choice as AChoice};
 ghost use Rattle.zy_isa.specs.declared.node.Node.{Node};
@@ -14,13 +14,19 @@ ghost use Rattle.zy_laws.specs.Journey.{OneWireframe, is_gone, is_stray};
 ghost use Rattle.zy_laws.specs.Travel.{NeverBack, NoneStarted, Travels};
 ghost use Rattle.zy_laws.specs.OneOwner.{OneOwner};
 ghost use Rattle.zy_laws.specs.Between.{NothingLeft};
+ghost use Rattle.zy_laws.specs.WayOut.{EachActs, Ended, NoneActive, NoneActs, Over, enough, way_out};
 ghost use Rattle.zy_table.specs.Holders.{ExclusiveAlone, HoldersActive};
 ghost use Rattle.zy_table.specs.Order.{InOrder};
 ghost use Rattle.zy_table.specs.Database.{ValuesAtPages, EachKeyHasPage, HasLows, RowsLie, database, newest};
 ghost use Rattle.zy_table.specs.Database.{all_leaves};
 ghost use Rattle.zy_laws.specs.Counts.{Safe, HasRoomAtCommit};
 ghost use Rattle.zy_table.specs.Serial.{CommitsListed, Serializable};
-ghost use Rattle.zy_laws.specs.RealTime.{KeepsRealTime};
+ghost use Rattle.zy_table.specs.Client.{is_active, is_new};
+ghost use Rattle.zy_table.specs.declared.entry.CommitRecord.{CommitRecord};
+ghost use Rattle.zy_table.specs.Run.{program_of};
+ghost use Rattle.zy_laws.specs.RealTime.{BeginsInOrder, txns_after, txns_now};
+ghost use Rattle.zy_laws.specs.Strict.{StrictlySerializable};
+ghost use Rattle.zy_laws.specs.Views.{HasPlace, IsOnLoneRun, commits_before, rows_after};
 ghost use Rattle.zy_laws.specs.SourceFirst.{SerialIn, at_node, commits_at, migration_order};
 
 /// The counts that make each sum and index safe: a transaction has done at most one instruction for each choice, it has
@@ -104,6 +110,24 @@ pub fn nothing_left()
         v.me.mode ≡ Empty → v.them.mode ≡ Normal → NothingLeft n v }
 {}
 
+/// No state is a dead end: whatever was chosen, its migration can still be ended. After the choices of `way_out` (each
+/// active transaction is killed; then messages are taken, and when none is left a node finishes or pushes) no
+/// transaction is active, the node that was the source is Empty and the other Normal, nothing is left of the migration,
+/// and commits and database are as they were. It is not said that anybody makes these choices.
+pub fn no_dead_end()
+    ensures { (sc : Scenario) → IsScenario sc → (choices : List AChoice)
+        → let s = play sc (opening sc) choices in Ended s (play sc s (way_out sc s)) }
+{}
+
+/// Migration steps (take, finish, push) run out, in whatever order they are chosen: at most `enough` of them, one after
+/// another, change the state. Once none of them would and no transaction is active, the migration is over. It is not said
+/// that anybody chooses them.
+pub fn migration_steps_run_out()
+    ensures { (sc : Scenario) → IsScenario sc → (choices : List AChoice)
+        → let s = play sc (opening sc) choices in
+        ((more : List AChoice) → EachActs sc s more → length more ≤ enough s) × (NoneActive s → NoneActs sc s → Over s) }
+{}
+
 /// A transaction aborts as `gone` only at a source in the dual mode.
 pub fn gone_in_dual()
     ensures { (sc : Scenario) → IsScenario sc → (choices : List AChoice) (choice : AChoice)
@@ -155,24 +179,42 @@ pub fn commits_listed()
 
 /// Under the rule `held` the database is that of the programs in the commit list, run one by one in its order; a
 /// transaction is there once where it is committed, and else not at all; and each has the registers of its lone run.
-/// Under `loose` the commit order need not do; the migration order of `source_first` does.
+/// Under `loose` the commit order need not do; the migration order of `strictly_serializable` does.
 pub fn serializable()
     ensures { (sc : Scenario) → IsScenario sc → sc.rule ≡ Held → (choices : List AChoice)
         → Serializable sc (play sc (opening sc) choices) }
 {}
 
-/// Under both rules the database is that of the committed programs, run one by one in the migration order: of each
-/// migration first all that committed at its source, then all that committed at its destination, each in commit order.
-/// That order is the commit list rearranged, and each committed transaction has the registers of its lone run in it.
-pub fn source_first()
-    ensures { (sc : Scenario) → IsScenario sc → (choices : List AChoice)
-        → SerialIn (migration_order sc choices) sc (play sc (opening sc) choices) }
+/// Every run is strictly serializable, under both rules, in the migration order: of each migration first all that
+/// committed at its source, then all that committed at its destination, each in commit order. Each lone run in this order
+/// ends by its own commit, and each read of a committed transaction gave what it gives in the lone run. Aborted
+/// transactions saw nothing else either: each has a place in the order (opacity). Whoever commits before another begins
+/// precedes it, and the order of those that have committed never changes.
+pub fn strictly_serializable()
+    ensures { (sc : Scenario) → IsScenario sc → (choices : List AChoice) → StrictlySerializable sc choices }
 {}
 
-/// The migration order keeps to real time: if transaction t has committed and u has not begun, t stands before u in the
-/// order of every longer schedule. With `source_first` this is strict serializability.
-pub fn real_time()
-    ensures { (sc : Scenario) → IsScenario sc → (choices : List AChoice) → KeepsRealTime sc choices }
+/// A transaction that is active was, now and at each earlier point at which it was active, on its lone run from the rows
+/// that a front of the migration order of this moment leaves. At a source this front has the commits before the migration
+/// and those at the source; elsewhere it has all.
+pub fn active_views()
+    ensures { (sc : Scenario) → IsScenario sc → (choices : List AChoice) (n t : ℕ)
+        → is_active (txns_now sc choices t).status ≡ true → is_active (txns_after sc choices n t).status ≡ true
+        → IsOnLoneRun (program_of sc t) (rows_after sc (commits_before sc choices t)) (txns_after sc choices n t) }
+{}
+
+/// Places keep to real time: if transaction u has not begun after n of the choices, its place is not before the place that
+/// t has by what it had seen until then.
+pub fn places_in_time()
+    ensures { (sc : Scenario) (choices : List AChoice) (order : List CommitRecord) (n t u : ℕ)
+        → (p : HasPlace sc (take n choices) t order) → (q : HasPlace sc choices u order)
+        → is_new (txns_after sc choices n u).status ≡ true → p.ahead ≤ q.ahead }
+{}
+
+/// Of two transactions that commit at different nodes, the one that began first stands first in the migration order. So,
+/// with `node_order`, the order of the begins and the order of the commits at each node determine it.
+pub fn begins_in_order()
+    ensures { (sc : Scenario) → IsScenario sc → (choices : List AChoice) → BeginsInOrder sc choices }
 {}
 
 /// The migration order keeps the commits of each node in commit order.

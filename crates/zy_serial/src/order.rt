@@ -11,7 +11,7 @@ use crate::acting::{is_source, side_of};
 use crate::sorted::Sorted;
 use std::alloc::Global;
 use zy_isa::Choice;
-use zy_laws::laws::source_first;
+use zy_laws::laws::strictly_serializable;
 use zy_machine::{Fault, Machine};
 use zy_table::CommitRecord;
 
@@ -46,7 +46,7 @@ fn sort_along(
     ensures serial { IfOk result (λ order. SerialIn order.items machine.now.scenario machine.now.state) }
 {
     // Proof: the state is serial in that order.
-    source_first();
+    strictly_serializable();
     let mut sorted = Sorted::new(alloc);
     for entry in machine.entries() {
         advance(replay, &mut sorted, entry.choice)?;

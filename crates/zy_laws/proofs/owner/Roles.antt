@@ -44,7 +44,7 @@ abbrev pub turned : View → View
 turned v = record { me = v.them; them = v.me; inbox = v.outbox; outbox = v.inbox; txns = v.txns; commits = v.commits }
 
 -- roles from one side are roles from the other
-turned_roles : (v : View) → Roles v → Roles (turned v)
+pub turned_roles : (v : View) → Roles v → Roles (turned v)
 turned_roles v (Source ph) = Destination ph
 turned_roles v (Destination ph) = Source ph
 

@@ -27,7 +27,7 @@ knows_back Resting (Wire xs) ms true h line = grind (arith, h, line)
 knows_back g m ms all h line = grind (arith, h, line)
 
 -- so my mode knows the front of the inbox
-knows_front : (v : View) (m : Message) (ms : List Message) → v.inbox ≡ m ∷ ms → mode_line m v ≡ Stray → Roles v → ⊥
+pub knows_front : (v : View) (m : Message) (ms : List Message) → v.inbox ≡ m ∷ ms → mode_line m v ≡ Stray → Roles v → ⊥
 knows_front v m ms e line (Source (Is g at)) =
     knows_back g m ms _ (subst (Back g) e at.back) (subst (λ mode. on_message mode (kind_of m) (all_here (with_brought m v.me)) ≡ Stray) at.source line)
 knows_front v m ms e line (Destination (Is g at)) =

@@ -96,7 +96,7 @@ told_to A w h = λ t. h t ∙ sym (ap counts (at_back A w t))
 told_to B w h = λ t. h t ∙ sym (ap counts (at_back B w t))
 
 -- a step keeps it
-step_listed : (sc : Scenario) (c : Choice) (s : State) → CommitsListed s → CommitsListed (step sc c s).after
+pub step_listed : (sc : Scenario) (c : Choice) (s : State) → CommitsListed s → CommitsListed (step sc c s).after
 unfolding step
 step_listed sc c s h =
     let n = side_of sc c s in
@@ -105,7 +105,7 @@ step_listed sc c s h =
     told_to n w (λ t. told sc n v w t (step_happens sc c s).event (told_from n s t h))
 
 -- it holds at the opening
-opening_listed : (sc : Scenario) → CommitsListed (opening sc)
+pub opening_listed : (sc : Scenario) → CommitsListed (opening sc)
 unfolding opening
 opening_listed sc = λ t. sym (ap counts (blank_at sc.programs t))
 

@@ -1,8 +1,9 @@
 -- A lone run over a database that it leaves as it is: what it wrote is in rows of its own.
-use Rattle.std.proofs.Common.{Bool, List, [], ap, arith, false, inl, inr, refl, suc, sym, true, zero, ℕ, ◌%◌, ◌++◌, ◌+◌, ◌^◌, ◌∙◌, ◌∷◌, ◌≡◌}
+use Rattle.std.proofs.Common.{Bool, List, [], ap, arith, false, inl, inr, refl, suc, sym, true, zero, ℕ, ◌%◌, ◌++◌, ◌+◌, ◌^◌, ◌∙◌, ◌∷◌, ◌≡◌, ◌≤◌}
 use Rattle.std.specs.Prelude.{None, Option, Some, if◌then◌else◌, is_some, nat_lt, not, replicate, slice_get, unwrap_or, ◌==◌}
 use Rattle.std.specs.FinMap.{get, get-insert, insert, nat_cmp-IsAntisymmetric, same_map}
 use Rattle.std.specs.Ordering.{eq_by_cmp, nat_cmp}
+use Rattle.std.proofs.Math.Nat.{eq-or-lt_of_le}
 use Rattle.std.proofs.lemmas.Bool.{cases_eq, cond_both, eq-eqb, eqb-false, eqb-true, ne_eqb, or_left, or_right}
 use Rattle.std.proofs.lemmas.Bool.Decides.{nat_tests}
 use Rattle.std.proofs.lemmas.Cmp.{nat_cmp_total}
@@ -116,11 +117,11 @@ agree_first : (d d' : Map) (k : ℕ) (keys : List ℕ) → Agree d d' (k ∷ key
 agree_first d d' k keys a = a.each k (or_left _ _ (eq-eqb k k refl))
 
 -- agreement on the first of two lists of keys
-agree_front : (d d' : Map) (ks keys : List ℕ) → Agree d d' (ks ++ keys) → Agree d d' ks
+pub agree_front : (d d' : Map) (ks keys : List ℕ) → Agree d d' (ks ++ keys) → Agree d d' ks
 agree_front d d' ks keys a = record { each = λ q h. a.each q (has_front ks keys q h) }
 
 -- agreement on the second of two lists of keys
-agree_back : (d d' : Map) (ks keys : List ℕ) → Agree d d' (ks ++ keys) → Agree d d' keys
+pub agree_back : (d d' : Map) (ks keys : List ℕ) → Agree d d' (ks ++ keys) → Agree d d' keys
 agree_back d d' ks keys a = record { each = λ q h. a.each q (has_back ks keys q h) }
 
 -- what x comes to over either database, if it ends nothing: agreement after it gives agreement before it, and the same result
@@ -222,6 +223,21 @@ lone_alike d d' program (suc n) on a =
     let h = alike d d' (slice_get program x.pc) x (rw is at on) (rw is at a) in
     let e = lone_alike d d' program n on_before h.before in
     ap (lone_step d' program) e ∙ stepped d' program x on_before ∙ h.same ∙ sym is
+
+-- and so does each part of it
+pub lone_earlier : (d d' : Map) (program : List Instr) (j n : ℕ) → j ≤ n → (lone d program n).over ≡ false → Agree d d' (lone d program n).keys
+    → lone d' program j ≡ lone d program j
+lone_earlier d d' program j zero le on a =
+    let none : j ≡ zero = omega (arith, le) in ap (lone d' program) none ∙ sym (ap (lone d program) none)
+lone_earlier d d' program j (suc n) le on a = elim (eq-or-lt_of_le le) [
+  | inl same ↦ ap (lone d' program) same ∙ lone_alike d d' program (suc n) on a ∙ sym (ap (lone d program) same)
+  | inr less ↦
+      let x = lone d program n in
+      let on_before = before_step d program x on in
+      let is = stepped d program x on_before in
+      let h = alike d d' (slice_get program x.pc) x (rw is at on) (rw is at a) in
+      lone_earlier d d' program j n (omega (arith, less)) on_before h.before
+]
 
 -- the order's test of equal keys
 tied : (q k : ℕ) → eq_by_cmp nat_cmp q k ≡ (k == q)

@@ -77,7 +77,7 @@ off_inside program here m done o k is =
     ap (λ z. get z k) (off_end program here m done o).0 ∙ get-laid (lone m program o.before).rows m k ∙ ap (λ z. or_else z (get m k)) none
 
 -- at the others both maps come to the same
-off_outside : (program : List Instr) (here : ℕ → Bool) (m e : Map) (done : ℕ) → ((k : ℕ) → here k ≡ false → get e k ≡ get m k)
+pub off_outside : (program : List Instr) (here : ℕ → Bool) (m e : Map) (done : ℕ) → ((k : ℕ) → here k ≡ false → get e k ≡ get m k)
     → Off program here m done → (k : ℕ) → here k ≡ false → get (alone e program done).map k ≡ get (alone m program done).map k
 unfolding off_kept
 off_outside program here m e done agree o k far =
@@ -121,6 +121,11 @@ aside_fewer sc here less m (c ∷ cs) fewer a =
       rows = λ k h. fewer k (o.rows k h);
     } in
     (p, aside_fewer sc here less (alone m (program_of sc c.txn) c.done).map cs fewer a.1)
+
+-- and so do the first of them
+pub aside_front : (sc : Scenario) (here : ℕ → Bool) (m : Map) (xs ys : List CommitRecord) → Aside sc here m (xs ++ ys) → Aside sc here m xs
+aside_front sc here m [] ys a = tt
+aside_front sc here m (c ∷ cs) ys a = (a.0, aside_front sc here (alone m (program_of sc c.txn) c.done).map cs ys a.1)
 
 -- one more such commit at the end
 pub aside_push : (sc : Scenario) (here : ℕ → Bool) (m : Map) (cs : List CommitRecord) (c : CommitRecord) → Aside sc here m cs

@@ -30,6 +30,7 @@ use Rattle.zy_table.proofs.LockLists.{holds-drop}
 use Rattle.zy_laws.specs.SourceFirst.{Sorted}
 use Rattle.zy_laws.proofs.locks.Locking.{Kept, Stay}
 use Rattle.zy_laws.proofs.owner.PageCounts.{owns-times}
+use Rattle.zy_laws.proofs.owner.Roles.{Owned}
 use Rattle.zy_laws.proofs.places.Installing.{none_else, owns-installed}
 use Rattle.zy_laws.proofs.places.PageValues.{db}
 use Rattle.zy_laws.proofs.serial.Committing.{commit_db, committed_locks, committed_them, committed_txns, serial-push}
@@ -64,6 +65,14 @@ base_same false m = refl
 -- where the first has no value, the second is taken
 or_none : (a : Option ℕ) (b : Option ℕ) → a ≡ None → or_else a b ≡ b
 or_none a b e = ap (λ z. or_else z b) e
+
+-- no page is at both nodes
+pub not_both : (v : View) → Owned v → (p : ℕ) → owns v.me.pages p ≡ true → owns v.them.pages p ≡ true → ⊥
+not_both v o p a b =
+    let one = owns-times p v.me.pages a in
+    let two = owns-times p v.them.pages b in
+    let k = o.once p in
+    grind (arith, nat_tests, k)
 
 -- a state whose commits are sorted, and a commit of t whose rows' pages are here
 module _ (sc : Scenario) (n : Node) (v : View) (start : Map) (lows : List ℕ) (o : Sorted) (t : ℕ) (s : Divided sc n v start lows o)
@@ -106,11 +115,7 @@ module _ (sc : Scenario) (n : Node) (v : View) (start : Map) (lows : List ℕ) (
 
   -- no page is at both nodes
   apart : (p : ℕ) → owns v.me.pages p ≡ true → owns v.them.pages p ≡ true → ⊥
-  apart p a b =
-      let one = owns-times p v.me.pages a in
-      let two = owns-times p v.them.pages b in
-      let k = s.kept.inv.owned.once p in
-      grind (arith, nat_tests, k)
+  apart = not_both v s.kept.inv.owned
 
   -- nor has a key whose page is at the other node
   bare_theirs : (k : ℕ) → page_here v.them lows k ≡ true → get_row x.rows k ≡ None
@@ -158,14 +163,18 @@ module _ (sc : Scenario) (n : Node) (v : View) (start : Map) (lows : List ℕ) (
   base_bare true e k same none = same
   base_bare false e k same none = after k ∙ or_none (get_row x.rows k) (get (db v) k) none
 
-  -- who else runs here follows the run on the new base
+  -- who else runs here has the same on the new base where it has locked the page
+  pub mine_agree : (e : Map) → ((k : ℕ) → get_row x.rows k ≡ None → get e k ≡ get m k) → (u : ℕ) → IsAt w u n → (k : ℕ)
+      → holds v.me.locks (page_of lows k) u ≡ true → get (base (is_source v.me.mode) e (db w)) k ≡ get (base (is_source v.me.mode) m (db v)) k
+  mine_agree e same u a k h = let none = bare_mine u k (far_at u n a) h in base_bare (is_source v.me.mode) e k (same k none) none
+
+  -- and so it follows the run on it
   mine_follow : (e : Map) → ((k : ℕ) → get_row x.rows k ≡ None → get e k ≡ get m k) → (u : ℕ) → IsAt w u n
       → Follows (program_of sc u) (base (is_source v.me.mode) e (db w)) lows w.me.locks u (txn_at w u)
   mine_follow e same u a =
       let far = far_at u n a in
       subst (Follows (program_of sc u) (base (is_source v.me.mode) e (db w)) lows w.me.locks u) (sym (now u far))
-      (follows_agree (base (is_source v.me.mode) e (db w)) (s.mine.runs u (subst (λ z. Stands z n) (now u far) a))
-      (λ k h. let none = bare_mine u k far h in base_bare (is_source v.me.mode) e k (same k none) none)
+      (follows_agree (base (is_source v.me.mode) e (db w)) (s.mine.runs u (subst (λ z. Stands z n) (now u far) a)) (mine_agree e same u a)
       (λ p h. ap (λ xs. holds xs p u) (committed_locks t v) ∙ holds-drop v.me.locks p t u far ∙ h))
 
   -- who runs at the other node, too
@@ -200,15 +209,39 @@ module _ (sc : Scenario) (n : Node) (v : View) (start : Map) (lows : List ℕ) (
   first_regs is h = registers_push sc (txn_at w) start o.first c h
       (new_regs.0, new_regs.1 ∙ ap (λ d. (alone d (program_of sc t) (x.done + 1)).regs) is)
 
+  -- at a source n runs on what the first ones come to
+  source_on : is_source v.me.mode ≡ true → on ≡ m
+  source_on source = ap (λ b. base b m (db v)) source
+
+  -- and so this commit changes it only where it has a private row
+  pub source_plain : is_source v.me.mode ≡ true → (k : ℕ) → get_row x.rows k ≡ None → get e k ≡ get m k
+  source_plain source k none = first_has (source_on source) k ∙ or_none (get_row x.rows k) (get m k) none
+
+  -- only where the page is here
+  pub source_agree : is_source v.me.mode ≡ true → (k : ℕ) → page_here v.me lows k ≡ false → get e k ≡ get m k
+  source_agree source k far = source_plain source k (bare k far)
+
+  -- who runs at the other node has the same where it has locked the page, after a commit at a source
+  pub source_there : is_source v.me.mode ≡ true → (u k : ℕ) → holds v.them.locks (page_of lows k) u ≡ true
+      → get (base (is_source v.them.mode) e (db w)) k ≡ get (base (is_source v.them.mode) m (db v)) k
+  source_there source = locked_there e (source_plain source) (inr (one_of v s.kept.inv.roles source))
+
+  -- and after another one
+  pub last_there : (u k : ℕ) → holds v.them.locks (page_of lows k) u ≡ true
+      → get (base (is_source v.them.mode) m (db w)) k ≡ get (base (is_source v.them.mode) m (db v)) k
+  last_there u k h = elim (cases_Bool (is_source v.them.mode)) [
+    | inl source ↦ ap (λ b. get (base b m (db w)) k) source ∙ sym (ap (λ b. get (base b m (db v)) k) source)
+    | inr away ↦ locked_there m (λ _ _. refl) (inr away) u k h
+  ]
+
   -- a commit at a source comes before those elsewhere
   pub source_commit : is_source v.me.mode ≡ true → Kept sc n w lows → Divided sc n w start lows (record { first = o.first ++ c ∷ []; later = o.later })
   unfolding committed
   source_commit source kept =
       let off : is_source v.them.mode ≡ false = one_of v s.kept.inv.roles source in
-      let on_is : on ≡ m = ap (λ b. base b m (db v)) source in
+      let on_is : on ≡ m = source_on source in
       let has_e = first_has on_is in
-      let plain : (k : ℕ) → get_row x.rows k ≡ None → get e k ≡ get m k = λ k none. has_e k ∙ or_none (get_row x.rows k) (get m k) none in
-      let agree : (k : ℕ) → page_here v.me lows k ≡ false → get e k ≡ get m k = λ k far. plain k (bare k far) in
+      let agree : (k : ℕ) → page_here v.me lows k ≡ false → get e k ≡ get m k = source_agree source in
       let same : (k : ℕ) → page_here v.me lows k ≡ true → get e k ≡ get (db w) k = λ k there.
       has_e k ∙ ap (or_else (get_row x.rows k)) (s.mine.same source k there) ∙ sym (after k) in
       let a = s.mine.aside source in
@@ -220,12 +253,12 @@ module _ (sc : Scenario) (n : Node) (v : View) (start : Map) (lows : List ℕ) (
         mine = record {
           same = λ _ k h. same k (sym (owned (page_of lows k)) ∙ h);
           aside = λ _. aside_fewer sc (page_here v.me lows) (page_here w.me lows) e o.later (λ k far. owned (page_of lows k) ∙ far) b;
-          runs = mine_follow e plain;
+          runs = mine_follow e (source_plain source);
         };
         theirs = record {
           same = λ h. absurd (false≢true (sym off ∙ h));
           aside = λ h. absurd (false≢true (sym off ∙ h));
-          runs = their_follow e (locked_there e plain (inr off));
+          runs = their_follow e (source_there source);
         };
         is_serial = same_map nat_cmp_total nat_cmp-IsAntisymmetric _ _ (λ k. elim (cases_Bool (page_here v.me lows k)) [
           | inl there ↦ sym (same k there) ∙ sym (aside_inside sc (page_here v.me lows) e o.later b k there)
@@ -273,10 +306,7 @@ module _ (sc : Scenario) (n : Node) (v : View) (start : Map) (lows : List ℕ) (
           same = λ source k there. s.theirs.same source k there ∙ sym (after k ∙ or_none (get_row x.rows k) (get (db v) k) (bare_theirs k there));
           aside = λ source. aside_push sc (page_here v.them lows) m o.later c (s.theirs.aside source)
               (subst (λ z. Off program (page_here v.them lows) z (x.done + 1)) s.is_serial aside);
-          runs = their_follow m (λ u k h. elim (cases_Bool (is_source v.them.mode)) [
-            | inl source ↦ ap (λ b. get (base b m (db w)) k) source ∙ sym (ap (λ b. get (base b m (db v)) k) source)
-            | inr away ↦ locked_there m (λ _ _. refl) (inr away) u k h
-          ]);
+          runs = their_follow m last_there;
         };
         is_serial = laid_over ∙ sym (ap (laid x.rows) on_is) ∙ sym ends.0 ∙ ap (λ d. (alone d program (x.done + 1)).map) (on_is ∙ s.is_serial)
             ∙ sym (serial-push sc m o.later c);

@@ -50,7 +50,7 @@ use Rattle.zy_laws.proofs.walk.ModeLines.{splits_in_normal}
 use Rattle.zy_laws.proofs.walk.Txns.{IsAt, Stands, active_off, at_other, at_same, at_self, ended_far, new_off, not_both_nodes, not_new}
 
 -- beside a node in Normal the other one has no page
-none_beside : (v : View) → Inv v → Roles v → may_split v.me.mode ≡ true → (p : ℕ) → owns v.them.pages p ≡ false
+pub none_beside : (v : View) → Inv v → Roles v → may_split v.me.mode ≡ true → (p : ℕ) → owns v.them.pages p ≡ false
 none_beside v i (Source (Is Resting at)) h p = ap (λ xs. owns xs p) (i.theirs.none (ap is_bare at.destination))
 none_beside v i (Source (Is g at)) h p = cc at.source
 none_beside v i (Destination (Is Done_sent at)) h p =

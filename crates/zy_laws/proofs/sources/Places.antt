@@ -18,7 +18,7 @@ NoneIs so txns [] = Unit {0}
 NoneIs so txns (c ∷ cs) = (so (txns c.txn).status ≡ false) × NoneIs so txns cs
 
 -- a transaction whose status is so has none of them
-none_listed : (so : Status → Bool) (f : ℕ → Txn) (t : ℕ) (cs : List CommitRecord) → NoneIs so f cs → so (f t).status ≡ true → times_listed t cs ≡ 0
+pub none_listed : (so : Status → Bool) (f : ℕ → Txn) (t : ℕ) (cs : List CommitRecord) → NoneIs so f cs → so (f t).status ≡ true → times_listed t cs ≡ 0
 none_listed so f t [] none is = refl
 none_listed so f t (c ∷ cs) none is =
     cond_both (c.txn == t) 1 0 (λ n. n + times_listed t cs ≡ 0)
@@ -26,7 +26,7 @@ none_listed so f t (c ∷ cs) none is =
     (λ far. let rest = none_listed so f t cs none.1 is in omega (arith, rest))
 
 -- in two lists a transaction is listed as often as in both together
-listed_both : (t : ℕ) (xs ys : List CommitRecord) → times_listed t (xs ++ ys) ≡ times_listed t xs + times_listed t ys
+pub listed_both : (t : ℕ) (xs ys : List CommitRecord) → times_listed t (xs ++ ys) ≡ times_listed t xs + times_listed t ys
 listed_both t [] ys = omega arith
 listed_both t (c ∷ xs) ys = let more = listed_both t xs ys in omega (arith, more)
 
@@ -37,12 +37,12 @@ listed_sum t (c ∷ cs) =
     ap (λ n. (if c.txn == t then 1 else 0) + n) (listed_sum t cs) ∙ sym (sum_by-cons (λ (d : CommitRecord). if d.txn == t then 1 else 0) c cs)
 
 -- a list rearranged has it as often
-listed_permuted : (t : ℕ) (xs ys : List CommitRecord) → IsPermutation xs ys → times_listed t ys ≡ times_listed t xs
+pub listed_permuted : (t : ℕ) (xs ys : List CommitRecord) → IsPermutation xs ys → times_listed t ys ≡ times_listed t xs
 listed_permuted t xs ys same =
     listed_sum t ys ∙ sum_by-IsPermutation (λ (c : CommitRecord). if c.txn == t then 1 else 0) xs ys same ∙ sym (listed_sum t xs)
 
 -- who is in the front stands in it
-place_front : (t : ℕ) (xs ys : List CommitRecord) → 1 ≤ times_listed t xs → place t (xs ++ ys) < length xs
+pub place_front : (t : ℕ) (xs ys : List CommitRecord) → 1 ≤ times_listed t xs → place t (xs ++ ys) < length xs
 place_front t [] ys there = absurd (omega (arith, there))
 place_front t (c ∷ xs) ys there =
     cond_both (c.txn == t) 0 (suc (place t (xs ++ ys))) (λ n. n < suc (length xs)) (λ same. omega arith)
@@ -52,7 +52,7 @@ place_front t (c ∷ xs) ys there =
     omega (arith, more))
 
 -- who is not stands behind it
-place_back : (t : ℕ) (xs ys : List CommitRecord) → times_listed t xs ≡ 0 → length xs ≤ place t (xs ++ ys)
+pub place_back : (t : ℕ) (xs ys : List CommitRecord) → times_listed t xs ≡ 0 → length xs ≤ place t (xs ++ ys)
 place_back t [] ys off = omega arith
 place_back t (c ∷ xs) ys off =
     cond_both (c.txn == t) 0 (suc (place t (xs ++ ys))) (λ n. suc (length xs) ≤ n)

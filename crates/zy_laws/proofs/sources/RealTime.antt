@@ -1,8 +1,7 @@
 -- Whoever has committed before another begins stands before it in the order.
-use Rattle.std.proofs.Common.{List, [], ap, append_assoc, append-nil, false, inl, inr, refl, subst, sym, true, ℕ, ◌<◌, ◌++◌, ◌∙◌, ◌∷◌, ◌≡◌, ◌≤◌}
+use Rattle.std.proofs.Common.{List, [], ap, append_assoc, append-nil, inl, inr, refl, subst, sym, true, ℕ, ◌<◌, ◌++◌, ◌∙◌, ◌∷◌, ◌≡◌, ◌≤◌}
 use Rattle.std.specs.Prelude.{◌⊎◌, Bool, if◌then◌else◌, slice_get}
 use Rattle.std.specs.List.Sorted.{IsPermutation}
-use Rattle.std.proofs.lemmas.Bool.{false≢true}
 use Rattle.zy_isa.specs.Scenario.{IsScenario, Scenario}
 use Rattle.zy_isa.specs.declared.choice.Choice.{Choice}
 use Rattle.zy_isa.specs.declared.node.Node.{Node}
@@ -10,10 +9,9 @@ use Rattle.zy_isa.specs.declared.node.Node.TheVariants.{A, B}
 use Rattle.zy_model.specs.declared.mode.NodeMode.{NodeMode}
 use Rattle.zy_model.specs.declared.mode.NodeMode.TheVariants.{Empty, Normal, SInit, SDual, SFinish, DInit, DDual, DFinish}
 use Rattle.zy_table.specs.Change.{begun, txn_at, txn_or}
-use Rattle.zy_table.specs.Client.{is_active, is_new}
+use Rattle.zy_table.specs.Client.{is_new}
 use Rattle.zy_table.specs.declared.entry.CommitRecord.{CommitRecord}
 use Rattle.zy_table.specs.declared.status.Status.{Status}
-use Rattle.zy_table.specs.declared.status.Status.TheVariants.{New, Active, Committed, Aborted}
 use Rattle.zy_table.specs.Database.{Map, database}
 use Rattle.zy_table.specs.Play.{move, opening, play, side_of, step}
 use Rattle.zy_table.specs.Run.{program_of}
@@ -34,11 +32,12 @@ use Rattle.zy_laws.proofs.sources.Sides.{none}
 use Rattle.zy_laws.proofs.sources.SourceFirst.{reached_holds, serial_source_first, sorted-keeps, then_step}
 use Rattle.zy_laws.proofs.travel.OneWay.{sourced}
 use Rattle.zy_laws.proofs.walk.Events.{step_happens}
+use Rattle.zy_laws.proofs.walk.Txns.{active_old, committed_old}
 use Rattle.zy_laws.proofs.sources.Sorting.{sorted_after}
 use Rattle.zy_laws.proofs.sources.Timed.{Early, Ends_in_first, Ends_in_later, Timed, early_event, none_both, timed_event}
 
 -- seen from A, and so from either node
-timed_from : (was : ℕ → Txn) (n : Node) (s : State) (o : Sorted) → Timed was A (facing A s) o → Timed was n (facing n s) o
+pub timed_from : (was : ℕ → Txn) (n : Node) (s : State) (o : Sorted) → Timed was A (facing A s) o → Timed was n (facing n s) o
 unfolding txn_at
 timed_from was A s o x = x
 timed_from was B s o (Ends_in_first front more is f r l) = Ends_in_first front more is f r l
@@ -87,24 +86,24 @@ step_early sc two c s o x h =
     }
 
 -- what holds of each state after an earlier one: who was committed in that one still is
-record After (was : ℕ → Txn) (s : State) (o : Sorted) : Type 0 where
-  timed : Timed was A (facing A s) o
-  still : (t : ℕ) → is_committed (was t).status ≡ true → is_committed (txn_at (facing A s) t).status ≡ true
+pub record After (was : ℕ → Txn) (s : State) (o : Sorted) : Type 0 where
+  pub timed : Timed was A (facing A s) o
+  pub still : (t : ℕ) → is_committed (was t).status ≡ true → is_committed (txn_at (facing A s) t).status ≡ true
 
 -- committed transactions are the same from either node
-side_same : (n : Node) (s : State) (t : ℕ) → txn_at (facing n s) t ≡ txn_at (facing A s) t
+pub side_same : (n : Node) (s : State) (t : ℕ) → txn_at (facing n s) t ≡ txn_at (facing A s) t
 unfolding txn_at
 side_same A s t = refl
 side_same B s t = refl
 
 -- and so from A after a step seen from n
-back_same : (n : Node) (w : View) (t : ℕ) → txn_at (facing A (seen_from n w)) t ≡ txn_at w t
+pub back_same : (n : Node) (w : View) (t : ℕ) → txn_at (facing A (seen_from n w)) t ≡ txn_at w t
 unfolding txn_at
 back_same A w t = refl
 back_same B w t = refl
 
 -- a step keeps it
-step_after : (sc : Scenario) (was : ℕ → Txn) (c : Choice) (s : State) (o : Sorted) → After was s o → After was (step sc c s).after (sorted_step sc c s o)
+pub step_after : (sc : Scenario) (was : ℕ → Txn) (c : Choice) (s : State) (o : Sorted) → After was s o → After was (step sc c s).after (sorted_step sc c s o)
 unfolding step sorted_step
 step_after sc was c s o h =
     let n = side_of sc c s in
@@ -121,36 +120,22 @@ step_after sc was c s o h =
     }
 
 -- a schedule in two parts is played one part after the other
-play-append : (sc : Scenario) (s : State) (cs ds : List Choice) → play sc s (cs ++ ds) ≡ play sc (play sc s cs) ds
+pub play-append : (sc : Scenario) (s : State) (cs ds : List Choice) → play sc s (cs ++ ds) ≡ play sc (play sc s cs) ds
 play-append sc s [] ds = refl
 play-append sc s (c ∷ cs) ds = play-append sc (step sc c s).after cs ds
 
 -- and so its commits are sorted
-sorted-append : (sc : Scenario) (s : State) (cs ds : List Choice) (o : Sorted) → sorted sc s (cs ++ ds) o ≡ sorted sc (play sc s cs) ds (sorted sc s cs o)
+pub sorted-append : (sc : Scenario) (s : State) (cs ds : List Choice) (o : Sorted) → sorted sc s (cs ++ ds) o ≡ sorted sc (play sc s cs) ds (sorted sc s cs o)
 sorted-append sc s [] ds o = refl
 sorted-append sc s (c ∷ cs) ds o = sorted-append sc (step sc c s).after cs ds (sorted_step sc c s o)
 
--- who is committed has begun
-committed_old : (s : Status) → is_committed s ≡ true → is_new s ≡ false
-committed_old New h = absurd (false≢true h)
-committed_old Active h = refl
-committed_old Committed h = refl
-committed_old (Aborted w) h = refl
-
--- who runs has begun
-active_old : (s : Status) → is_active s ≡ true → is_new s ≡ false
-active_old New h = absurd (false≢true h)
-active_old Active h = refl
-active_old Committed h = refl
-active_old (Aborted w) h = refl
-
 -- the commits so far are of transactions that have begun
-none_new : (sc : Scenario) (f : ℕ → Txn) (m : Map) (cs : List CommitRecord) → Registers sc f m cs → NoneIs is_new f cs
+pub none_new : (sc : Scenario) (f : ℕ → Txn) (m : Map) (cs : List CommitRecord) → Registers sc f m cs → NoneIs is_new f cs
 none_new sc f m [] h = tt
 none_new sc f m (c ∷ cs) h = (committed_old (f c.txn).status h.0.0, none_new sc f (alone m (program_of sc c.txn) c.done).map cs h.1)
 
 -- where two lists as one have none whose status is so, each has none
-none_parts : (so : Status → Bool) (f : ℕ → Txn) (xs ys : List CommitRecord) → NoneIs so f (xs ++ ys) → NoneIs so f xs × NoneIs so f ys
+pub none_parts : (so : Status → Bool) (f : ℕ → Txn) (xs ys : List CommitRecord) → NoneIs so f (xs ++ ys) → NoneIs so f xs × NoneIs so f ys
 none_parts so f [] ys h = (tt, h)
 none_parts so f (c ∷ cs) ys h = let r = none_parts so f cs ys h.1 in ((h.0, r.0), r.1)
 
@@ -213,11 +198,11 @@ record Ahead (f : ℕ → Txn) (s : State) (order : List CommitRecord) : Type 0 
   parts : InTime f order
   still : (t : ℕ) → is_committed (f t).status ≡ true → is_committed (txn_at (facing A s) t).status ≡ true
 
--- this holds of every longer schedule
-ahead : (sc : Scenario) → IsScenario sc → (cs more : List Choice)
-    → Ahead (txn_at (facing A (play sc (opening sc) cs))) (play sc (opening sc) (cs ++ more)) (migration_order sc (cs ++ more))
+-- of the transactions after the first part of a schedule it holds after the whole
+pub after_both : (sc : Scenario) → IsScenario sc → (cs more : List Choice)
+    → After (txn_at (facing A (play sc (opening sc) cs))) (play sc (opening sc) (cs ++ more)) (sorted sc (opening sc) (cs ++ more) none)
 unfolding opening
-ahead sc l cs more =
+after_both sc l cs more =
     let s = play sc (opening sc) cs in
     let f = txn_at (facing A s) in
     let o = sorted sc (opening sc) cs none in
@@ -230,14 +215,20 @@ ahead sc l cs more =
       still = λ t a. a;
     } in
     let later = sorted-keeps sc (λ _. Unit {0}) (After f) (λ c z u. u) (λ c z x _ h. step_after sc f c z x h) more s o tt now in
-    record {
-      parts = subst (λ (x : Sorted). InTime f (x.first ++ x.later)) (sym (sorted-append sc (opening sc) cs more none))
-          (in_time f (facing A (play sc s more)) (sorted sc s more o) later.timed);
-      still = λ t ended. ap (λ (x : State). is_committed (txn_at (facing A x) t).status) (play-append sc (opening sc) cs more) ∙ later.still t ended;
-    }
+    subst (λ z. After f z (sorted sc (opening sc) (cs ++ more) none)) (sym (play-append sc (opening sc) cs more))
+    (subst (After f (play sc s more)) (sym (sorted-append sc (opening sc) cs more none)) later)
+
+-- and so the order of every longer schedule is in two parts
+ahead : (sc : Scenario) → IsScenario sc → (cs more : List Choice)
+    → Ahead (txn_at (facing A (play sc (opening sc) cs))) (play sc (opening sc) (cs ++ more)) (migration_order sc (cs ++ more))
+ahead sc l cs more =
+    let s = play sc (opening sc) (cs ++ more) in
+    let o = sorted sc (opening sc) (cs ++ more) none in
+    let h = after_both sc l cs more in
+    record { parts = in_time (txn_at (facing A (play sc (opening sc) cs))) (facing A s) o h.timed; still = h.still }
 
 -- a committed transaction is in the commit list once
-listed_once : (s : State) → CommitsListed s → (t : ℕ) → is_committed (txn_at (facing A s) t).status ≡ true → times_listed t s.commits ≡ 1
+pub listed_once : (s : State) → CommitsListed s → (t : ℕ) → is_committed (txn_at (facing A s) t).status ≡ true → times_listed t s.commits ≡ 1
 unfolding txn_at
 listed_once s h t ended = h t ∙ ap (λ b. if b then 1 else 0) ended
 

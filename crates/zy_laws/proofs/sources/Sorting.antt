@@ -43,9 +43,9 @@ without_less p q (x ∷ xs) h =
     (λ _. ap (λ b. b || owns (without p xs) q) parts.0 ∙ without_less p q xs parts.1)
 
 -- the node that acts does not become a source, gets no page where it is one, and was idle if it is one no longer
-record Wanes (v w : View) : Type 0 where
-  less : is_source w.me.mode ≡ true → (is_source v.me.mode ≡ true) × ((p : ℕ) → owns v.me.pages p ≡ false → owns w.me.pages p ≡ false)
-  mode : (is_idle v.me.mode ≡ true) ⊎ (is_source w.me.mode ≡ is_source v.me.mode)
+pub record Wanes (v w : View) : Type 0 where
+  pub less : is_source w.me.mode ≡ true → (is_source v.me.mode ≡ true) × ((p : ℕ) → owns v.me.pages p ≡ false → owns w.me.pages p ≡ false)
+  pub mode : (is_idle v.me.mode ≡ true) ⊎ (is_source w.me.mode ≡ is_source v.me.mode)
 
 -- where no mode changes and no page comes
 wanes_same : (v w : View) → w.me.mode ≡ v.me.mode → ((p : ℕ) → owns v.me.pages p ≡ false → owns w.me.pages p ≡ false) → Wanes v w
@@ -65,7 +65,7 @@ starts (Starts line e) = true
 starts e = false
 
 -- an event of no transaction that is no start
-wanes_of : {sc : Scenario} {n : Node} {v w : View} (e : Event sc n v w) → of_txn e ≡ false → starts e ≡ false → Wanes v w
+pub wanes_of : {sc : Scenario} {n : Node} {v w : View} (e : Event sc n v w) → of_txn e ≡ false → starts e ≡ false → Wanes v w
 unfolding asks leaves
 wanes_of {v = v} (Rests e) h s = rw e (wanes_same v _ refl (λ p o. o))
 wanes_of {v = v} (Asks line e) h s = rw e (wanes_same v _ refl (λ p o. o))

@@ -29,22 +29,25 @@ pub then_step : (n : Node) (s : State) (w : View) (o : Sorted) → sorted_after 
 then_step A s w o = refl
 then_step B s w o = refl
 
--- a step keeps it
-step_holds : (sc : Scenario) (start : Map) → 2 ≤ sc.cap → (c : Choice) (s : State) (o : Sorted) → Tidy s → Holds sc start s o
-    → Holds sc start (step sc c s).after (sorted_step sc c s o)
+-- a step keeps it, with the newest low keys after the step
+pub step_divided : (sc : Scenario) (start : Map) → 2 ≤ sc.cap → (c : Choice) (s : State) (lows : List ℕ) (o : Sorted) → Tidy s
+    → Divided sc A (facing A s) start lows o
+    → Divided sc A (facing A (step sc c s).after) start (lows_then sc c s lows) (sorted_step sc c s o)
 unfolding step sorted_step
-step_holds sc start two c s o x h =
+step_divided sc start two c s lows o x h =
     let n = side_of sc c s in
     let v = facing n s in
     let w = (move sc c v).after in
     let event = (step_happens sc c s).event in
-    let before = divided_from sc n s start h.lows o h.divided in
-    let inv = inv_view n w (step_inv sc c s h.divided.kept.inv) in
-    let next = divided_event sc n v w start h.lows o before event (kept_event sc n v w h.lows two (ordered_from n s x.ordered) before.kept inv event) in
-    record {
-      lows = lows_then sc c s h.lows;
-      divided = divided_to sc n w start (lows_then sc c s h.lows) _ (subst (Divided sc n w start (lows_then sc c s h.lows)) (then_step n s w o) next);
-    }
+    let before = divided_from sc n s start lows o h in
+    let inv = inv_view n w (step_inv sc c s h.kept.inv) in
+    let next = divided_event sc n v w start lows o before event (kept_event sc n v w lows two (ordered_from n s x.ordered) before.kept inv event) in
+    divided_to sc n w start (lows_then sc c s lows) _ (subst (Divided sc n w start (lows_then sc c s lows)) (then_step n s w o) next)
+
+-- a step keeps it
+pub step_holds : (sc : Scenario) (start : Map) → 2 ≤ sc.cap → (c : Choice) (s : State) (o : Sorted) → Tidy s → Holds sc start s o
+    → Holds sc start (step sc c s).after (sorted_step sc c s o)
+step_holds sc start two c s o x h = record { lows = lows_then sc c s h.lows; divided = step_divided sc start two c s h.lows o x h.divided }
 
 -- what every step keeps of a state and the sorted commits holds after every schedule, beside what is known of every state on the way
 pub sorted-keeps : (sc : Scenario) (Q : State → Type 0) (P : State → Sorted → Type 0) → ((c : Choice) (s : State) → Q s → Q (step sc c s).after)

@@ -169,7 +169,7 @@ play_both sc ok cs =
 -- ---- the whole
 
 -- a list of locks that none holds is empty
-no_lock : (xs : List Lock) → ((p t : ℕ) → holds xs p t ≡ true → ⊥) → xs ≡ []
+pub no_lock : (xs : List Lock) → ((p t : ℕ) → holds xs p t ≡ true → ⊥) → xs ≡ []
 no_lock [] h = refl
 no_lock (x ∷ xs) h =
     absurd

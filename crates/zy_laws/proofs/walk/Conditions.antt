@@ -225,12 +225,13 @@ pub record Giving (sc : Scenario) (v : View) : Type 0 where
   pub own : owns v.me.pages pull.page ≡ true
   pub free : (is_held sc.rule && is_locked v.me.locks pull.page) ≡ false
 
--- a page is taken
+-- a page is taken, which is not the last one that DFinish waits for
 pub record Paged (v : View) : Type 0 where
   pub leaf : Leaf
   pub taken : Front (Page leaf) v
   pub open taken use *
   pub pulls : may_pull v.me.mode ≡ true
+  pub lacks : v.me.mode ≡ DFinish → all_here (with_arrived leaf v.me) ≡ false
 
 -- the last page is taken
 pub record PagedLast (v : View) : Type 0 where
@@ -239,6 +240,12 @@ pub record PagedLast (v : View) : Type 0 where
   pub open taken use *
   pub mode : v.me.mode ≡ DFinish
   pub all : all_here (with_arrived leaf v.me) ≡ true
+
+-- a finish is taken, with a page missing
+pub record FinishedPart (v : View) : Type 0 where
+  pub take : Taking Finish DDual v
+  pub open take use *
+  pub lacks : all_here v.me ≡ false
 
 -- a finish is taken, with all pages here
 pub record FinishedWhole (v : View) : Type 0 where

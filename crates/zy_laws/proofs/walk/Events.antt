@@ -56,7 +56,7 @@ use Rattle.zy_table.proofs.AbortedLocks.{aborted-locked}
 use Rattle.zy_isa.specs.Limits.{max_key}
 use Rattle.zy_laws.proofs.walk.Conditions.{Runs, Leads, BySet, ByJump, BySum, Free, has_lock, page, puts, value_at, FreeRange, has_locks, sum_at, rest, arrived}
 use Rattle.zy_laws.proofs.walk.Conditions.{Beginning, Aborting, Going, Getting, Summing, Writing, Inserting, Placing, Splitting, Committing, Asking, Starting}
-use Rattle.zy_laws.proofs.walk.Conditions.{Front, Taking, Wired, Pulled, Giving, Paged, PagedLast, FinishedWhole, EndingDual, Pushing}
+use Rattle.zy_laws.proofs.walk.Conditions.{Front, Taking, Wired, Pulled, Giving, Paged, PagedLast, FinishedPart, FinishedWhole, EndingDual, Pushing}
 
 -- what a step of n's side did: w is v after one line of the table, whose conditions held
 pub data Event (sc : Scenario) (n : Node) (v w : View) : Type 0 where
@@ -86,7 +86,7 @@ pub data Event (sc : Scenario) (n : Node) (v w : View) : Type 0 where
   Gives : (line : Giving sc v) → w ≡ leaves line.page (rest v line.after) → Event sc n v w
   GotPage : (line : Paged v) → w ≡ arrived line.leaf (rest v line.after) → Event sc n v w
   GotLast : (line : PagedLast v) → w ≡ post Done (turns Normal (arrived line.leaf (rest v line.after))) → Event sc n v w
-  GotFinish : (line : Taking Finish DDual v) → w ≡ turns DFinish (rest v line.after) → Event sc n v w
+  GotFinish : (line : FinishedPart v) → w ≡ turns DFinish (rest v line.after) → Event sc n v w
   GotAll : (line : FinishedWhole v) → w ≡ post Done (turns Normal (rest v line.after)) → Event sc n v w
   GotDone : (line : Taking Done SFinish v) → w ≡ turns Empty (with_me (with_lows [] v.me) (rest v line.after)) → Event sc n v w
   Finishes : (line : EndingDual n v) → w ≡ post Finish (turns SFinish v) → Event sc n v w
@@ -145,7 +145,7 @@ gone_key x (r ∷ rows) all sub p e =
     ]
 
 -- the test of equal nodes is right
-same_node-true : (a b : Node) → same_node a b ≡ true → a ≡ b
+pub same_node-true : (a b : Node) → same_node a b ≡ true → a ≡ b
 same_node-true A A e = refl
 same_node-true A B e = absurd (false≢true e)
 same_node-true B A e = absurd (false≢true e)
@@ -408,7 +408,7 @@ module _ (sc : Scenario) (n : Node) where
       elim (page_line v.me.mode (all_here (with_brought (Page leaf) v.me))) [
         | inl e ↦ strays (Page leaf) v taken e
         | inr h ↦ elim h [
-          | inl more ↦ by_line (Page leaf) v taken _ more.1 (plain v _ (GotPage (record { leaf = leaf; taken = taken; pulls = more.0 }) refl) refl refl tt)
+          | inl more ↦ by_line (Page leaf) v taken _ more.2 (plain v _ (GotPage (record { leaf = leaf; taken = taken; pulls = more.0; lacks = more.1 }) refl) refl refl tt)
           | inr last ↦ by_line (Page leaf) v taken _ last.2
               (plain v _ (GotLast (record { leaf = leaf; taken = taken; mode = last.0; all = last.1 }) refl) refl refl tt)
         ]
@@ -421,7 +421,7 @@ module _ (sc : Scenario) (n : Node) where
       elim (finish_line v.me.mode (all_here (with_brought Finish v.me))) [
         | inl e ↦ strays Finish v taken e
         | inr h ↦ let take : Taking Finish DDual v = record { taken = taken; mode = h.0 } in elim h.1 [
-          | inl some ↦ by_line Finish v taken _ some.1 (plain v _ (GotFinish take refl) refl refl tt)
+          | inl some ↦ by_line Finish v taken _ some.1 (plain v _ (GotFinish (record { take = take; lacks = some.0 }) refl) refl refl tt)
           | inr all ↦ by_line Finish v taken _ all.1 (plain v _ (GotAll (record { take = take; all = all.0 }) refl) refl refl tt)
         ]
       ]

@@ -36,12 +36,12 @@ pull_line SDual all = inr (refl, (SDual, refl))
 pull_line SFinish all = inr (refl, (SFinish, refl))
 pull_line mode all = inl refl
 
--- a page is stray but in a mode that takes pages; the last one turns DFinish to Normal, which answers done
+-- a page is stray but in a mode that takes pages; the last one turns DFinish to Normal, which answers done, and no other does
 pub page_line : (mode : NodeMode) (all : Bool) → (on_message mode kind.Page all ≡ Stray)
-    ⊎ (((may_pull mode ≡ true) × (on_message mode kind.Page all ≡ Turns mode None))
+    ⊎ (((may_pull mode ≡ true) × (mode ≡ DFinish → all ≡ false) × (on_message mode kind.Page all ≡ Turns mode None))
     ⊎ ((mode ≡ DFinish) × (all ≡ true) × (on_message mode kind.Page all ≡ Turns Normal (Some kind.Done))))
-page_line DDual all = inr (inl (refl, refl))
-page_line DFinish false = inr (inl (refl, refl))
+page_line DDual all = inr (inl (refl, (λ e. cc), refl))
+page_line DFinish false = inr (inl (refl, (λ _. refl), refl))
 page_line DFinish true = inr (inr (refl, refl, refl))
 page_line mode all = inl refl
 

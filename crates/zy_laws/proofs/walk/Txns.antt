@@ -110,6 +110,20 @@ new_off Active h = refl
 new_off Committed h = absurd (false≢true h)
 new_off (Aborted w) h = refl
 
+-- who is committed has begun
+pub committed_old : (s : Status) → is_committed s ≡ true → is_new s ≡ false
+committed_old New h = absurd (false≢true h)
+committed_old Active h = refl
+committed_old Committed h = refl
+committed_old (Aborted w) h = refl
+
+-- who runs has begun
+pub active_old : (s : Status) → is_active s ≡ true → is_new s ≡ false
+active_old New h = absurd (false≢true h)
+active_old Active h = refl
+active_old Committed h = refl
+active_old (Aborted w) h = refl
+
 -- whoever runs after t ended is another transaction
 pub ended_far : (v w : View) (t : ℕ) (y : Txn) → w.txns ≡ slice_set v.txns t y → is_active (txn_at v t).status ≡ true → is_active y.status ≡ false
     → (u : ℕ) (m : Node) → IsAt w u m → u ≡ t → ⊥

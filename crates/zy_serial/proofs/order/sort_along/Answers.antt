@@ -50,5 +50,5 @@ returns-clause-serial c =
     let choices = choices_of m.entries in
     let replay = c.entries-entry-items.ensures.replay in
     let law : SerialIn (migration_order m.scenario choices) m.scenario m.state =
-    subst (SerialIn (migration_order m.scenario choices) m.scenario) (sym replay.state) (c.source_first.ensures m.scenario replay.tested choices) in
+    subst (SerialIn (migration_order m.scenario choices) m.scenario) (sym replay.state) (c.strictly_serializable.ensures m.scenario replay.tested choices).serial in
     IfOk-weaker c.joined.result _ _ (λ order e. subst (λ os. SerialIn os m.scenario m.state) (sym (e ∙ all_sorted c)) law) c.joined.ensures
