@@ -3,7 +3,8 @@
   cmd      the words after the program's name, quoted as in a shell
   stdin    the input; or
   example  the file of examples/ that is the input; or
-  like     the case whose input it has too; with none of the three the input is empty
+  like     the case whose input it has too; or
+  listing  the case whose expected output is the input; with none of the four the input is empty
   pad      a number: the input goes on with empty lines up to this many bytes
   to       where standard output goes, in place of being read: `closed`, `unread` (a pipe whose reader has gone), or a path such as /dev/full
   stdout   the expected output; none: nothing
@@ -50,7 +51,8 @@ class Case:
         self.words = shlex.split(self.text('cmd'))
         self.example = self.text('example')
         self.like = self.text('like')
-        given = content(os.path.join(CASES, self.like or name, 'stdin'))
+        listing = self.text('listing')
+        given = content(os.path.join(CASES, listing, 'stdout') if listing else os.path.join(CASES, self.like or name, 'stdin'))
         self.text_given = content(os.path.join(EXAMPLES, self.example)) if self.example else given
         self.pad = int(self.text('pad') or 0)
         self.to = self.text('to')

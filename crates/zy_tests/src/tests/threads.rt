@@ -9,8 +9,8 @@ use std::test::Fail;
 use std::thread::{Threads, yield_now};
 use zy_isa::{Actor, Choice, Node};
 use zy_table::{Entry, Outcome};
-use zy_threads::run::run_allowed;
-use zy_threads::{Allowance, Gate, Unlimited};
+use zy_threads::run::{run_allowed, run_threads};
+use zy_threads::{Allowance, Gate};
 
 const TAKE_B: Choice = Choice::Take(Node::B);
 
@@ -29,7 +29,7 @@ const CHOICES: &[Choice] = &[
 ];
 
 /// How often a gate looks for what it waits for: long enough, and never for ever.
-const TURNS: u32 = 10_000_000;
+const TURNS: u32 = 1_000_000_000;
 
 /// Whether the number came up to this within the turns.
 fn waited(number: &AtomicU64, least: u64) -> bool {
@@ -43,13 +43,12 @@ fn waited(number: &AtomicU64, least: u64) -> bool {
 }
 
 /// The steps of a run by three threads.
-fn steps<W: Allowance + Sync>(
+fn steps(
     rt: &(impl Threads + Wait + Sync),
     alloc: Global,
     gate: &(impl Gate + Sync),
-    allowance: &W,
 ) -> Result<Vec<Entry>, Fail> {
-    let machine = run_allowed(rt, alloc, scenario(alloc, CHOICES)?, gate, allowance)?;
+    let machine = run_threads(rt, alloc, scenario(alloc, CHOICES)?, gate)?;
     let steps = machine.entries().to_vec(alloc);
     machine.discard();
     Ok(steps?)
@@ -108,7 +107,7 @@ fn two_workers_meet(rt: HostRuntime) -> Result<(), Fail> {
         b: AtomicU64::new(0),
         missed: AtomicU64::new(0),
     };
-    let steps = steps(&rt, rt.alloc(), &gate, &Unlimited)?;
+    let steps = steps(&rt, rt.alloc(), &gate)?;
     assert_eq!(rt; gate.missed.load(Ordering::SeqCst), 0);
     assert!(rt; are_merged(steps.as_slice()));
     Ok(())
@@ -145,7 +144,7 @@ fn others_step_while_one_waits(rt: HostRuntime) -> Result<(), Fail> {
         c: AtomicU64::new(0),
         missed: AtomicU64::new(0),
     };
-    let steps = steps(&rt, rt.alloc(), &gate, &Unlimited)?;
+    let steps = steps(&rt, rt.alloc(), &gate)?;
     assert_eq!(rt; gate.missed.load(Ordering::SeqCst), 0);
     assert!(rt; are_merged(steps.as_slice()));
     Ok(())
@@ -206,7 +205,7 @@ fn the_client_comes_last(rt: HostRuntime) -> Result<(), Fail> {
         b: AtomicU64::new(0),
         wrong: AtomicU64::new(0),
     };
-    let steps = steps(&rt, rt.alloc(), &gate, &Unlimited)?;
+    let steps = steps(&rt, rt.alloc(), &gate)?;
     assert_eq!(rt; gate.wrong.load(Ordering::SeqCst), 0);
     assert_eq!(rt; gate.b.load(Ordering::SeqCst), 5);
     assert!(rt; of_b_before_client(steps.as_slice()) >= 4);
@@ -357,7 +356,7 @@ fn a_refused_step_stops_one(rt: HostRuntime) -> Result<(), Fail> {
 #[test]
 fn each_call_has_the_entry_before(rt: HostRuntime) -> Result<(), Fail> {
     let gate = Noting::new();
-    let steps = steps(&rt, rt.alloc(), &gate, &Unlimited)?;
+    let steps = steps(&rt, rt.alloc(), &gate)?;
     assert_eq!(rt; gate.wrong.load(Ordering::SeqCst), 0);
     assert_eq!(rt; gate.short(), 0);
     assert!(rt; gate.agrees(steps.as_slice(), Actor::C));

@@ -1,4 +1,5 @@
-//! How deep the tree of a wireframe with 512 pages is, put in in three orders.
+//! The tree of a wireframe with 512 pages, put in in three orders: how deep it is, and each key's page against a plain
+//! scan.
 use std::alloc::Global;
 use zy_wire::{Wire, WireFault};
 
@@ -35,18 +36,61 @@ fn put(wire: &mut Wire, low: u16) -> Result<(), WireFault> {
     wire.grow(low)
 }
 
-/// How many pages the wireframe has with all of them put in in this order, and how many levels its tree.
-fn size(alloc: Global, order: Order) -> Result<(usize, u32), WireFault> {
+/// All the pages, put in in this order.
+fn built(alloc: Global, order: Order) -> Result<Wire, WireFault> {
     let mut wire = Wire::new(alloc, PAGES)?;
     for page in 1..PAGES {
         put(&mut wire, rank(order, page).wrapping_mul(WIDTH))?;
     }
-    Ok((wire.len(), wire.depth()))
+    Ok(wire)
+}
+
+/// The page of a key, and the page with the least low key above it, by a look at each low key in turn.
+fn scanned(wire: &Wire, key: u16) -> (u16, Option<u16>) {
+    let mut page = 0;
+    let mut highest = 0;
+    let mut after = None;
+    let mut least = u16::MAX;
+    for number in 0..wire.len() as u16 {
+        let low = wire.low_of(number);
+        if low <= key && highest <= low {
+            page = number;
+            highest = low;
+        }
+        if key < low && low <= least {
+            after = Some(number);
+            least = low;
+        }
+    }
+    (page, after)
+}
+
+/// The first key at which a search is not the scan.
+fn first_astray(wire: &Wire) -> Option<u16> {
+    (0..=u16::MAX).find(|key| (wire.page_of(*key), wire.after(*key)) != scanned(wire, *key))
+}
+
+/// How many pages there are, whether the tree is at most 5 levels deep, and the first key at which a search is not the
+/// scan.
+fn facts(alloc: Global, order: Order) -> Result<(usize, bool, Option<u16>), WireFault> {
+    let wire = built(alloc, order)?;
+    Ok((wire.len(), wire.depth() <= 5, first_astray(&wire)))
 }
 
 #[test]
-fn at_most_five_levels(rt: HostRuntime) {
-    for order in [Order::Rising, Order::Falling, Order::Alternating] {
-        assert!(rt; matches!(size(rt.alloc(), order), Ok((512, 1..=5))));
-    }
+fn rising(rt: HostRuntime) {
+    assert_eq!(rt; facts(rt.alloc(), Order::Rising), Ok((512, true, None)));
+}
+
+#[test]
+fn falling(rt: HostRuntime) {
+    assert_eq!(rt; facts(rt.alloc(), Order::Falling), Ok((512, true, None)));
+}
+
+#[test]
+fn alternating(rt: HostRuntime) {
+    assert_eq!(rt;
+        facts(rt.alloc(), Order::Alternating),
+        Ok((512, true, None))
+    );
 }
