@@ -1,7 +1,8 @@
 //! Reads a text line by line.
-ghost use Rattle.std.specs.Prelude.{◌≡◌, Some};
+ghost use Rattle.std.specs.Prelude.{◌≡◌, ◌<◌, Some, length};
 ghost use Rattle.zy_asm.specs.Reasons.{by_kind};
-ghost use Rattle.zy_text.specs.Lines.{texts};
+ghost use Rattle.zy_text.specs.Words.{lines_of, words_of};
+ghost use Rattle.zy_text.specs.Lines.{first_line, first_words, lines_below, texts};
 ghost use Rattle.zy_asm.specs.Reading.{Reads, statement, body_line, step, line_step, reading};
 ghost use Rattle.zy_asm.specs.Reading as spec;
 ghost use Rattle.zy_asm.specs.Reading.Progress.{Steps, progress_of};
@@ -24,6 +25,7 @@ use zy_isa::{Rule, Version};
 use zy_text::Words;
 use zy_text::line::take_line;
 use zy_text::names::label_of;
+use zy_text::usual::{link_line, run_line};
 
 impl Reader {
     /// Takes a line below the header, whose first word is this keyword.
@@ -85,14 +87,12 @@ impl Reader {
     {
         if let [first, second] = words {
             if let Some(choice) = self.usual_plain(first, second) {
-                self.choices.push(choice).map_err(|_| Reason::NoMemory)?;
-                return Ok(());
+                return self.add_choice(choice);
             }
         }
         if let [first, second, third] = words {
             if let Some(choice) = self.usual_choice(first, second, third) {
-                self.choices.push(choice).map_err(|_| Reason::NoMemory)?;
-                return Ok(());
+                return self.add_choice(choice);
             }
             if let Some(instr) = self.usual_instr(first, second, third) {
                 self.instrs
@@ -105,6 +105,30 @@ impl Reader {
             return Ok(());
         }
         self.worded_line(words)
+    }
+
+    /// Takes a text's first line, and gives what is below it. The lines that most schedules have most of are cut without
+    /// a search for the ends of their words.
+    #[inline(always)]
+    fn take<'a>(&mut self, words: &mut Words<'a>, text: &'a [u8]) -> (Result<(), Reason>, &'a [u8])
+        requires { 0 < length text.now }
+        ensures step { Steps result.0 (progress_of self.new)
+            (line_step (progress_of self.old) (first_words (words_of (first_line text.entry.now)))) }
+        ensures below { lines_of result.1.now ≡ lines_below text.entry.now }
+        ensures shorter { length result.1.now < length text.entry.now }
+    {
+        if let Some(line) = run_line(text) {
+            if let Some(choice) = self.usual_choice(line.actor, line.action, line.t) {
+                return (self.add_choice(choice), line.below);
+            }
+        }
+        if let Some(line) = link_line(text) {
+            if let Some(choice) = self.usual_plain(line.actor, line.action) {
+                return (self.add_choice(choice), line.below);
+            }
+        }
+        let below = take_line(words, text);
+        (self.line(words.as_slice()), below)
     }
 }
 
@@ -140,8 +164,9 @@ pub fn read(alloc: Global, text: &str) -> Result<Reader, LineFault>
     let mut rest = text.as_bytes();
     let mut line = 1usize;
     while !rest.is_empty() {
-        rest = take_line(&mut words, rest);
-        if let Err(reason) = reader.line(words.as_slice()) {
+        let (outcome, below) = reader.take(&mut words, rest);
+        rest = below;
+        if let Err(reason) = outcome {
             return Err(LineFault { line, reason });
         }
         line += 1;

@@ -1,4 +1,6 @@
+mod BufferedLemmas
 pub mod DigitLemmas
 mod PairLemmas
+mod PieceLemmas
 pub mod StreamLemmas
 pub mod WritingLemmas

@@ -5,8 +5,7 @@ use Rattle.std.specs.List.{flat_map}
 use Rattle.std.proofs.lemmas.Grind.{flat_map-append}
 use Rattle.std.specs.Io.KnownBytes.{Appends}
 use Rattle.std.proofs.KnownBytes.{Appends-trans}
-use Rattle.zy_io.specs.Streams.{Remains, WrotePrefix}
-use Rattle.zy_io.proofs.StreamLemmas.{Remains-stops, WrotePrefix-more}
+use Rattle.zy_io.specs.Streams.{WrotePrefix}
 use Rattle.zy_io.specs.declared.writing.TextFault.{TextFault}
 use Rattle.zy_io.specs.declared.writing.TextFault.TheVariants.{Write, Memory}
 use Rattle.zy_io.specs.Writing.{Appended, AppendedPrefix, Wrote}
@@ -103,22 +102,3 @@ module _ (a b c : Option (List ℕ)) (m n k : ℕ) where
       → Wrote a c m k r (flat_map f xs)
   Wrote-element-stops f xs i d fault r h p same q is =
       Wrote-stops fault r _ _ (flat_map f (drop (suc i) xs)) _ p same q (flat_map-split f xs i d h) is
-
-  -- the same, where what was before it went out but for a rest
-  pub Wrote-rest-stops : {Y Z : Type 0} (f : Z → List ℕ) (xs : List Z) (i : ℕ) (d : Z) (rest : List ℕ) (fault : TextFault) (r : Result Y TextFault)
-      → i < length xs → Remains a b (flat_map f (take i xs)) rest → n ≡ m → Wrote b c n k {X = Unit {0}} (Err fault) (rest ++ f (get_or xs i d)) → r ≡ Err fault
-      → Wrote a c m k r (flat_map f xs)
-  Wrote-rest-stops f xs i d rest fault r h p same q is = rw is (stops fault q)
-    where
-      before : List ℕ
-      before = flat_map f (take i xs)
-
-      front : WrotePrefix b c (rest ++ f (get_or xs i d)) → WrotePrefix a c (flat_map f xs)
-      front w =
-          WrotePrefix-more a c (before ++ f (get_or xs i d)) (flat_map f (drop (suc i) xs)) (flat_map f xs)
-          (Remains-stops a b c before (f (get_or xs i d)) rest p w)
-          (flat_map-split f xs i d h ∙ sym (append_assoc before (f (get_or xs i d)) (flat_map f (drop (suc i) xs))))
-
-      stops : (e : TextFault) → Wrote b c n k {X = Unit {0}} (Err e) (rest ++ f (get_or xs i d)) → Wrote a c m k {X = Unit {0}} (Err e) (flat_map f xs)
-      stops Write w = (front w.0, w.1 ∙ ap (λ x. x + 1) same)
-      stops Memory w = (front w.0, w.1 ∙ same)

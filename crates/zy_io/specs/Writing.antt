@@ -1,7 +1,7 @@
 -- What a call that writes lines of text did.
 use Rattle.std.specs.Prelude.{◌≡◌, ℕ, ◌+◌, List, [], ◌∷◌, ◌++◌, Option, Result, Ok, Err}
 use Rattle.std.specs.Io.KnownBytes.{Appends}
-use Rattle.zy_io.specs.Streams.{Remains, WrotePrefix}
+use Rattle.zy_io.specs.Streams.{WrotePrefix}
 use Rattle.zy_io.specs.declared.writing.TextFault.{TextFault}
 use Rattle.zy_io.specs.declared.writing.TextFault.TheVariants.{Write, Memory}
 
@@ -25,14 +25,3 @@ module _ (old new : Option (List ℕ)) (before after : ℕ) where
   Wrote (Ok x) text = Appends old new text × (after ≡ before)
   Wrote (Err Write) text = WrotePrefix old new text × (after ≡ before + 1)
   Wrote (Err Memory) text = WrotePrefix old new text × (after ≡ before)
-
-  -- at Ok a prefix of the text went out, and the rest is kept; else a prefix of it went out, since a call failed or
-  -- took none
-  abbrev pub Passed : {X E : Type 0} → Result X E → List ℕ → List ℕ → Type 0
-  Passed (Ok x) text rest = Remains old new text rest × (after ≡ before)
-  Passed (Err e) text rest = WrotePrefix old new text × (after ≡ before + 1)
-
-  -- the same, where memory may be wanted too
-  abbrev pub Gathered : {X : Type 0} → Result X TextFault → List ℕ → List ℕ → Type 0
-  Gathered (Ok x) text rest = Remains old new text rest × (after ≡ before)
-  Gathered (Err f) text rest = Wrote {X = Unit {0}} (Err f) text

@@ -3,6 +3,7 @@ ghost use Rattle.std.specs.Prelude.{◌≡◌, ◌==◌, ◌<◌, ◌≤◌, ◌
 ghost use Rattle.std.specs.Prelude.{vec_capacity, vec_len};
 ghost use Rattle.std.specs.Fmt.{decimal};
 
+use crate::pieces::room;
 use core::mem::replace_with;
 use itoa::Buffer;
 use std::alloc::{AllocError, Global};
@@ -118,14 +119,6 @@ fn put_long(number: u64, bytes: &mut Vec<u8>) -> Result<(), AllocError>
     ensures { bytes.new.items ≡ (if is_ok result then bytes.old.items ++ decimal number else bytes.old.items) }
 {
     bytes.extend_from_slice(Buffer::new().format(number).as_bytes())
-}
-
-/// How many more bytes there is room for.
-#[inline(always)]
-fn room(bytes: &Vec<u8>) -> usize
-    ensures { vec_len bytes.now + result ≡ vec_capacity bytes.now }
-{
-    bytes.capacity() - bytes.len()
 }
 
 /// Puts bytes behind others, where there is room for them. The others come by value, so that where they lie need not

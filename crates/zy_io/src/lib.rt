@@ -3,14 +3,17 @@
 #![tactic(auto)]
 
 pub mod buffer;
+pub mod buffered;
 pub mod line;
 pub mod memory;
+mod pieces;
 pub mod reading;
 pub mod section;
 pub mod stream;
 pub mod writing;
 
 pub use crate::buffer::LineBuffer;
+pub use crate::buffered::Buffered;
 pub use crate::line::{Decimal, Joined, Line};
 pub use crate::memory::{SliceSource, VecSink};
 pub use crate::reading::{MAX_INPUT, ReadFault};

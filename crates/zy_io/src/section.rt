@@ -1,12 +1,12 @@
 //! Text in lines: each is made in one buffer that is used again, and goes out whole.
 ghost use Rattle.std.specs.Prelude.{◌≡◌, ◌<◌, ◌++◌, [], ◌∷◌, ℕ, List, length, slice_index_or};
 ghost use Rattle.std.specs.List.{flat_map};
-ghost use Rattle.zy_io.specs.Writing.{line_of, Appended, Gathered, Passed, Wrote};
+ghost use Rattle.zy_io.specs.Writing.{line_of, Appended, Wrote};
 
 use crate::buffer::LineBuffer;
 use crate::line::Line;
 use crate::stream::Sink;
-use crate::writing::{TextFault, WriteFault, write_all};
+use crate::writing::TextFault;
 use std::alloc::AllocError;
 
 /// A list of lines that are made one at a time.
@@ -67,43 +67,7 @@ fn finish_line<K: Sink>(sink: &mut K, line: &mut LineBuffer) -> Result<(), TextF
         (K.failures sink.new) result (line_of line.old) }
 {
     line.push(b'\n')?;
-    write_all(sink, line.as_bytes())?;
-    Ok(())
-}
-
-/// How many bytes of lines are gathered before they go out.
-const MANY: usize = 4096;
-
-/// Writes what the buffer holds where that is much, and leaves it empty then.
-#[inline(always)]
-fn write_much<K: Sink>(sink: &mut K, line: &mut LineBuffer) -> Result<(), WriteFault>
-    requires { K.failures sink.old < u64.MAX }
-    ensures { Passed (K.written sink.old) (K.written sink.new) (K.failures sink.old)
-        (K.failures sink.new) result line.old line.new }
-{
-    if line.len() >= MANY {
-        write_all(sink, line.as_bytes())?;
-        line.clear();
-    }
-    Ok(())
-}
-
-/// Puts the line at a place of the list behind what the buffer holds, and writes that where it is much.
-#[inline(always)]
-fn gather_place<K: Sink, L: Lines>(
-    sink: &mut K,
-    line: &mut LineBuffer,
-    lines: &L,
-    place: usize,
-) -> Result<(), TextFault>
-    requires failures { K.failures sink.old < u64.MAX }
-    requires within { place < length (L.texts lines.now) }
-    ensures { Gathered (K.written sink.old) (K.written sink.new) (K.failures sink.old) (K.failures sink.new)
-        result (line.old ++ line_of (slice_index_or (L.texts lines.now) place [])) line.new }
-{
-    lines.append(place, line)?;
-    line.push(b'\n')?;
-    write_much(sink, line)?;
+    sink.put_all(line.as_bytes())?;
     Ok(())
 }
 
@@ -129,11 +93,11 @@ impl<L: Lines> Section for AllLines<L> {
     ghost texts = { λ s. L.texts s.0 };
 
     fn write<K: Sink>(&self, sink: &mut K, line: &mut LineBuffer) -> Result<(), TextFault> {
-        line.clear();
         for place in 0..self.0.len() {
-            gather_place(sink, line, &self.0, place)?;
+            line.clear();
+            self.0.append(place, line)?;
+            finish_line(sink, line)?;
         }
-        write_all(sink, line.as_bytes())?;
         Ok(())
     }
 }

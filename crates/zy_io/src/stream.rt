@@ -3,8 +3,9 @@
 ghost use Rattle.std.specs.Prelude.{◌≡◌, ◌<◌, ◌+◌, ℕ, List, Option, is_err, if◌then◌else◌};
 ghost use Rattle.std.specs.Io.{ReadsAtMost, WritesAtMost};
 ghost use Rattle.std.specs.Io.KnownBytes.{ReadConsumes, WriteAppends, Keeps};
-ghost use Rattle.zy_io.specs.Streams.{counted, pull_faults, pulled_bytes, put_faults};
+ghost use Rattle.zy_io.specs.Streams.{WritesAll, counted, pull_faults, pulled_bytes, put_faults};
 
+use crate::writing::WriteFault;
 use std::io;
 use std::io::{Read, Write};
 use std::marker::Model;
@@ -43,6 +44,26 @@ pub trait Sink {
         ensures bound { WritesAtMost result bytes.now }
         ensures bytes { WriteAppends (written self.old) (written self.new) result bytes.now }
         ensures failed { failures self.new ≡ failures self.old + put_faults result bytes.now };
+
+    /// Takes all of the bytes, or those up to the first call that fails or takes none. Each line of a listing goes out
+    /// by one call.
+    fn put_all(&mut self, bytes: &[u8]) -> Result<(), WriteFault>
+        requires { failures self.old < u64.MAX }
+        ensures { WritesAll (written self.old) (written self.new) (failures self.old) (failures self.new) result bytes.now }
+    {
+        let mut rest = bytes;
+        while !rest.is_empty() {
+            let Ok(count) = self.put(rest) else {
+                return Err(WriteFault);
+            };
+            if count == 0 {
+                return Err(WriteFault);
+            }
+            let (_, left) = rest.split_at(count);
+            rest = left;
+        }
+        Ok(())
+    }
 }
 
 /// A reader of std, with the number of its calls that failed and the number of bytes that they gave.

@@ -48,16 +48,5 @@ pub fn write_all<K: Sink>(sink: &mut K, bytes: &[u8]) -> Result<(), WriteFault>
     ensures { WritesAll (K.written sink.old) (K.written sink.new)
         (K.failures sink.old) (K.failures sink.new) result bytes.now }
 {
-    let mut rest = bytes;
-    while !rest.is_empty() {
-        let Ok(count) = sink.put(rest) else {
-            return Err(WriteFault);
-        };
-        if count == 0 {
-            return Err(WriteFault);
-        }
-        let (_, left) = rest.split_at(count);
-        rest = left;
-    }
-    Ok(())
+    sink.put_all(bytes)
 }

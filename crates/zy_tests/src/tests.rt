@@ -3,6 +3,7 @@
 mod faults;
 mod image;
 mod json;
+mod lines;
 mod modes;
 mod streams;
 mod threads;

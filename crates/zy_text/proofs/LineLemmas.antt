@@ -1,5 +1,5 @@
 -- A text's first line, byte by byte.
-use Rattle.std.proofs.Common.{◌++◌, ◌≡◌, ◌∙◌, ℕ, ◌==◌, ◌<◌, ◌+◌, true, false, not, List, [], ◌∷◌, length, take, drop, filter, get_or, suc, refl, sym, ap}
+use Rattle.std.proofs.Common.{◌++◌, ◌≡◌, ◌∙◌, ℕ, ◌==◌, ◌<◌, true, false, not, List, [], ◌∷◌, length, take, drop, filter, get_or, suc, refl, sym, ap}
 use Rattle.std.proofs.Common.{subst, arith, inl, inr}
 use Rattle.std.specs.List.{position_or_len, before_first, slice_split, onto_first, prefix_len}
 use Rattle.std.proofs.lemmas.Bool.{cases_Bool}

@@ -7,6 +7,7 @@ pub mod cut;
 pub mod line;
 pub mod names;
 pub mod numbers;
+pub mod usual;
 
 pub use crate::canonical::{Canonical, CanonicalText, Each};
 pub use crate::line::Words;

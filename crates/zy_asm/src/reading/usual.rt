@@ -3,9 +3,10 @@ ghost use Rattle.std.specs.Prelude.{◌≡◌, ◌<◌, ◌∷◌, ◌++◌, [],
 ghost use Rattle.zy_isa.specs.Limits.{max_instrs, max_choices};
 ghost use Rattle.zy_asm.specs.Pending.{pending_of, whole};
 ghost use Rattle.zy_asm.specs.Reading.{line_step};
-ghost use Rattle.zy_asm.specs.Reading.Progress.{progress_of};
+ghost use Rattle.zy_asm.specs.Reading.Progress.{Steps, progress_of};
 
 use crate::choices::{actor_of, numbered_choice, plain_choice};
+use crate::faults::Reason;
 use crate::instructions::whole_of;
 use crate::state::{Reader, Stage};
 use zy_isa::{Choice, Instr, MAX_CHOICES, MAX_INSTRS, Operation};
@@ -46,6 +47,17 @@ impl Reader {
         let actor = actor_of(actor)?;
         let choice = plain_choice(actor, action)?;
         Some(choice)
+    }
+
+    /// Puts a choice behind the others.
+    #[inline(always)]
+    pub fn add_choice(&mut self, choice: Choice) -> Result<(), Reason>
+        requires { length self.old.choices.items < max_choices }
+        ensures { Steps result (progress_of self.new)
+            (Ok (record (progress_of self.old) { choices = self.old.choices.items ++ choice ∷ [] })) }
+    {
+        self.choices.push(choice).map_err(|_| Reason::NoMemory)?;
+        Ok(())
     }
 
     /// The instruction of a line, where it has two words behind its operation and names no label, as most do, and there

@@ -1,7 +1,7 @@
 -- One more call took a prefix of the rest.
 use Rattle.std.proofs.Common.{rules}
 use Rattle.zy_io.proofs.StreamLemmas.{Remains-more}
-use Rattle.zy_io.proofs.writing.write_all.Goals as goal
+use Rattle.zy_io.proofs.stream.Sink.put_all.Goals as goal
 
 pub loop-rest-preserved : goal.loop-rest-preserved
 loop-rest-preserved g c = record {

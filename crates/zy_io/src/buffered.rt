@@ -1,0 +1,124 @@
+//! A sink that keeps bytes back, and passes them on many at a time.
+ghost use Rattle.std.specs.Prelude.{◌≡◌, ◌<◌, ◌≤◌, ◌+◌, ◌-◌, ◌++◌, [], OnOk, if◌then◌else◌};
+ghost use Rattle.std.specs.Prelude.{is_err, length, take, drop, vec_len, vec_capacity};
+ghost use Rattle.std.specs.Io.KnownBytes.{Appends, Keeps, append_known};
+ghost use Rattle.zy_io.specs.Streams.{WritesAll};
+
+use crate::pieces::{append, append_line, room};
+use crate::stream::Sink;
+use crate::writing::WriteFault;
+use std::io;
+
+/// Keeps bytes back for a sink, which is called once for many lines. The bytes that are kept back when it is dropped
+/// are lost: call `pass` before.
+#[derive(Drop)]
+pub struct Buffered<K> {
+    sink: K,
+    held: Vec<u8>,
+}
+
+impl<K> Buffered<K> {
+    /// Keeps back these bytes, and never more than they have capacity for.
+    pub fn new(sink: K, held: Vec<u8>) -> Buffered<K>
+        ensures { result ≡ record { sink = sink; held = held } }
+    {
+        Buffered { sink, held }
+    }
+
+    /// The sink that the bytes go to.
+    pub fn sink(&self) -> &K
+        ensures { result.now ≡ self.now.sink }
+    {
+        &self.sink
+    }
+}
+
+impl<K: Sink> Buffered<K> {
+    /// Passes on what is kept back, up to the first call of the sink that fails or takes none.
+    pub fn pass(&mut self) -> Result<(), WriteFault>
+        requires { K.failures self.old.sink < u64.MAX }
+        ensures empty { OnOk result (self.new.held.items ≡ []) }
+        ensures bytes { Keeps (append_known (K.written self.old.sink) self.old.held.items)
+            (append_known (K.written self.new.sink) self.new.held.items) }
+        ensures failed { K.failures self.new.sink ≡ K.failures self.old.sink + (if is_err result then 1 else 0) }
+    {
+        let (given, outcome) = give(&mut self.sink, self.held.as_slice());
+        drop_front(&mut self.held, given);
+        outcome
+    }
+
+    /// Takes all of the bytes, for which there is no room beside those that are kept back.
+    #[cold]
+    #[inline(never)]
+    fn put_many(&mut self, bytes: &[u8]) -> Result<(), WriteFault>
+        requires { K.failures self.old.sink < u64.MAX }
+        ensures { WritesAll (append_known (K.written self.old.sink) self.old.held.items)
+            (append_known (K.written self.new.sink) self.new.held.items)
+            (K.failures self.old.sink) (K.failures self.new.sink) result bytes.now }
+    {
+        self.pass()?;
+        if bytes.len() <= room(&self.held) {
+            append(&mut self.held, bytes);
+            return Ok(());
+        }
+        self.sink.put_all(bytes)
+    }
+}
+
+/// What is kept back counts as written.
+impl<K: Sink> Sink for Buffered<K> {
+    ghost written = { λ s. append_known (K.written s.sink) s.held.items };
+
+    ghost failures = { λ s. K.failures s.sink };
+
+    fn put(&mut self, bytes: &[u8]) -> io::Result<usize> {
+        if bytes.len() <= room(&self.held) {
+            append(&mut self.held, bytes);
+            return Ok(bytes.len());
+        }
+        match self.pass() {
+            Ok(()) => self.sink.put(bytes),
+            Err(_) => Ok(0),
+        }
+    }
+
+    #[inline(always)]
+    fn put_all(&mut self, bytes: &[u8]) -> Result<(), WriteFault> {
+        if bytes.len() <= room(&self.held) {
+            append_line(&mut self.held, bytes);
+            return Ok(());
+        }
+        self.put_many(bytes)
+    }
+}
+
+/// Gives bytes to a sink up to the first call that fails or takes none, and says how many it took.
+fn give<K: Sink>(sink: &mut K, bytes: &[u8]) -> (usize, Result<(), WriteFault>)
+    requires { K.failures sink.old < u64.MAX }
+    ensures bound { result.0 ≤ length bytes.now }
+    ensures all { OnOk result.1 (result.0 ≡ length bytes.now) }
+    ensures bytes { Appends (K.written sink.old) (K.written sink.new) (take result.0 bytes.now) }
+    ensures failed { K.failures sink.new ≡ K.failures sink.old + (if is_err result.1 then 1 else 0) }
+{
+    let mut given = 0;
+    while given < bytes.len() {
+        match sink.put(&bytes[given..]) {
+            Ok(0) => return (given, Err(WriteFault)),
+            Ok(count) => given += count,
+            Err(_) => return (given, Err(WriteFault)),
+        }
+    }
+    (given, Ok(()))
+}
+
+/// Drops the first bytes.
+fn drop_front(bytes: &mut Vec<u8>, count: usize)
+    requires { count ≤ vec_len bytes.old }
+    ensures items { bytes.new.items ≡ drop count bytes.old.items }
+    ensures len { vec_len bytes.new ≡ vec_len bytes.old - count }
+    ensures capacity { vec_capacity bytes.new ≡ vec_capacity bytes.old }
+{
+    let len = bytes.len();
+    bytes.as_mut_slice().copy_within(count..len, 0);
+    bytes.truncate(len - count);
+}
