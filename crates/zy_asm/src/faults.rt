@@ -4,6 +4,7 @@ ghost use Rattle.zy_asm.specs.Reasons.{kind_of, fault_of};
 
 use crate::shown::WordStart;
 use std::fmt;
+use thiserror::Error;
 use zy_isa::ProgramFault;
 
 /// Why a line is rejected. Of several reasons the first is reported, in the order in which the line is judged.
@@ -32,7 +33,8 @@ pub enum AsmKind {
 }
 
 /// The first faulty line, from 1, and why it is rejected.
-#[derive(Clone, Copy)]
+#[derive(Clone, Copy, Debug, Error)]
+#[error("line {line}: {kind:?}")]
 pub struct AsmFault {
     pub line: usize,
     pub kind: AsmKind,
@@ -265,7 +267,8 @@ fn tell_target<W: fmt::Write>(f: &mut fmt::Formatter<W>, number: usize, at: u8) 
 }
 
 /// The first faulty line, from 1, and what is wrong with it.
-#[derive(Clone, Copy, Debug)]
+#[derive(Clone, Copy, Debug, Error)]
+#[error("Input(line {line}, {:?}): {reason}", .reason.kind())]
 pub struct LineFault {
     pub line: usize,
     pub reason: Reason,

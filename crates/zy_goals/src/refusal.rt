@@ -2,6 +2,7 @@
 
 use std::alloc::AllocError;
 use std::fmt;
+use thiserror::Error;
 
 /// What was expected in place of a word.
 #[derive(Clone, Copy)]
@@ -38,6 +39,13 @@ pub enum ExpectedInGoal {
     NoThen,
     /// The end, or a closing bracket: there are as many parts as there may be.
     FewerParts,
+}
+
+/// The words that `Display` writes.
+impl fmt::Debug for ExpectedInGoal {
+    fn fmt<W: fmt::Write>(&self, f: &mut fmt::Formatter<W>) -> fmt::Result {
+        fmt::Display::fmt(self, f)
+    }
 }
 
 /// What a person reads of it.
@@ -93,7 +101,8 @@ impl fmt::Display for ExpectedInGoal {
 }
 
 /// The word at which a text is no goal.
-#[derive(Clone, Copy)]
+#[derive(Clone, Copy, Debug, Error)]
+#[error("bytes {from} to {to} of the goal: {expected}")]
 pub struct WordFault {
     /// Where the word begins and where it ends, in bytes from the start of the text. At the end of the text the word is
     /// empty.
@@ -104,22 +113,18 @@ pub struct WordFault {
 }
 
 /// Why no goal was read.
-#[derive(Clone, Copy)]
+#[derive(Clone, Copy, Debug, Error)]
 pub enum GoalFault {
     /// The text is no goal.
-    Refused(WordFault),
+    #[error(transparent)]
+    Refused(#[from] WordFault),
     /// A request for memory was refused.
+    #[error("there is no memory for the goal")]
     Memory,
 }
 
 impl From<AllocError> for GoalFault {
     fn from(_e: AllocError) -> GoalFault {
         GoalFault::Memory
-    }
-}
-
-impl From<WordFault> for GoalFault {
-    fn from(refusal: WordFault) -> GoalFault {
-        GoalFault::Refused(refusal)
     }
 }

@@ -36,7 +36,8 @@ pub enum JsonFault {
 }
 
 /// The first line of a text that is none of a log in JSON, by its number.
-#[derive(Clone, Copy)]
+#[derive(Clone, Copy, Debug, Error)]
+#[error("Input(line {line}, Json): {fault}")]
 pub struct JsonLineFault {
     pub line: usize,
     /// Why it is none; never that there is no memory.
@@ -44,11 +45,13 @@ pub struct JsonLineFault {
 }
 
 /// Why the lines of a text were not read.
-#[derive(Clone, Copy)]
+#[derive(Clone, Copy, Debug, Error)]
 pub enum JsonLogFault {
     /// A line is none of a log in JSON.
+    #[error(transparent)]
     Refused(JsonLineFault),
     /// There is no memory for the lines.
+    #[error("there is no memory for the lines")]
     Memory,
 }
 

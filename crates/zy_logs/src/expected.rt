@@ -101,6 +101,13 @@ fn outcomes_of(choice: Choice) -> &'static str {
     }
 }
 
+/// The words that `Display` writes.
+impl fmt::Debug for ExpectedInLog {
+    fn fmt<W: fmt::Write>(&self, f: &mut fmt::Formatter<W>) -> fmt::Result {
+        fmt::Display::fmt(self, f)
+    }
+}
+
 /// What a person reads of it.
 impl fmt::Display for ExpectedInLog {
     fn fmt<W: fmt::Write>(&self, f: &mut fmt::Formatter<W>) -> fmt::Result {

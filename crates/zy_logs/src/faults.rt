@@ -3,10 +3,12 @@ ghost use Rattle.std.specs.Prelude.{◌≡◌};
 
 use crate::expected::ExpectedInLog;
 use std::alloc::AllocError;
+use thiserror::Error;
 
 /// The first faulty line, by its number, and its word that does not fit, by how many words come before it, with what may
 /// stand in the place of the word.
-#[derive(Clone, Copy)]
+#[derive(Clone, Copy, Debug, Error)]
+#[error("Input(line {line}, {:?}): {expected}", .expected.kind())]
 pub struct LogLineFault {
     pub line: usize,
     pub word: usize,
@@ -14,11 +16,13 @@ pub struct LogLineFault {
 }
 
 /// Why no logs were read.
-#[derive(Clone, Copy)]
+#[derive(Clone, Copy, Debug, Error)]
 pub enum LogFault {
     /// A line is none of a log, or is one too many.
+    #[error(transparent)]
     Refused(LogLineFault),
     /// A request for memory was refused.
+    #[error("there is no memory for the logs")]
     Memory,
 }
 

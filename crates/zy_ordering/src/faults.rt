@@ -5,32 +5,38 @@ ghost use Rattle.zy_ordering.specs.declared.faults.OrderFault.TheVariants.{Bench
 ghost use Rattle.zy_ordering.specs.Faults.{of_below, of_logs, of_objects, of_reading, status_of};
 
 use std::alloc::AllocError;
-use std::fmt;
+use thiserror::Error;
 use zy_engine::BenchFault;
 use zy_io::TextFault;
 use zy_json::{JsonLineFault, JsonLogFault};
 use zy_logs::{LogFault, LogLineFault};
 
 /// Why the lines below a scenario are not read. A number is that of the line of the whole input.
-#[derive(Clone, Copy)]
+#[derive(Clone, Copy, Debug, Error)]
 pub enum BelowFault {
     /// A line is none of a log, or is one too many.
+    #[error(transparent)]
     Log(LogLineFault),
     /// A line is to be an object, and is none that tells a line of a log.
+    #[error(transparent)]
     Json(JsonLineFault),
     /// A request for memory was refused.
+    #[error("there is no memory for the lines below the scenario")]
     Memory,
 }
 
 /// Why the engine gave up. Its text names the fault, and says what is wrong.
-#[derive(Clone, Copy)]
+#[derive(Clone, Copy, Debug, Error)]
 pub enum OrderFault {
     /// The scenario is rejected, a call failed, or there was no memory.
+    #[error(transparent)]
     Bench(BenchFault),
     /// A line below the scenario is none of a log, or is one too many. The number is that of the line of the whole input.
+    #[error(transparent)]
     Log(LogLineFault),
     /// A line below the scenario is to be an object, and is none that tells a line of a log. The number is that of the line of the
     /// whole input.
+    #[error(transparent)]
     Json(JsonLineFault),
 }
 
@@ -43,22 +49,6 @@ impl OrderFault {
             OrderFault::Bench(fault) => fault.status(),
             OrderFault::Log(_) => 1,
             OrderFault::Json(_) => 1,
-        }
-    }
-}
-
-/// The fault's name, as of scenario texts, and the words.
-impl fmt::Display for OrderFault {
-    fn fmt<W: fmt::Write>(&self, f: &mut fmt::Formatter<W>) -> fmt::Result {
-        match self {
-            OrderFault::Bench(fault) => write!(f, "{fault}"),
-            OrderFault::Log(LogLineFault { line, expected, .. }) => {
-                let kind = expected.kind();
-                write!(f, "Input(line {line}, {kind:?}): {expected}")
-            }
-            OrderFault::Json(JsonLineFault { line, fault }) => {
-                write!(f, "Input(line {line}, Json): {fault}")
-            }
         }
     }
 }
