@@ -1,7 +1,9 @@
 -- A step more of a way out.
-use Rattle.std.proofs.Common.{◌≡◌, ◌∙◌, ◌+◌, ◌<◌, ◌++◌, ℕ, zero, suc, List, [], ◌∷◌, length, drop, slice_get, refl, ap, sym, arith, true, false}
+use Rattle.std.proofs.Common.{◌≡◌, ◌∙◌, ◌+◌, ◌<◌, ◌++◌, ℕ, zero, suc, List, [], ◌∷◌, length, drop, slice_get, refl, ap, sym, subst, arith, true, false}
 use Rattle.std.specs.Prelude.{Option, Some, None}
+use Rattle.std.proofs.lemmas.Bool.{lt-ltb}
 use Rattle.std.proofs.lemmas.List.{append-nil, append_assoc}
+use Rattle.zy_isa.specs.Choices.{names_below}
 use Rattle.zy_isa.specs.Scenario.{Scenario}
 use Rattle.zy_isa.specs.declared.choice.Choice.{Choice}
 use Rattle.zy_isa.specs.declared.choice.Choice.TheVariants.{Kill}
@@ -12,6 +14,10 @@ use Rattle.zy_table.specs.Change.{txn_or}
 use Rattle.zy_table.specs.Client.{is_active}
 use Rattle.zy_table.specs.Play.{play, step}
 use Rattle.zy_table.specs.State.{State, Txn, facing}
+use Rattle.zy_machine.specs.Histories.{History, IsReplay, choices_of}
+use Rattle.zy_laws.specs.Counts.{Safe}
+use Rattle.zy_laws.proofs.counts.SafeCounts.{safe}
+use Rattle.zy_laws.proofs.way_out.NoDeadEnd.{no_dead_end}
 use Rattle.zy_laws.specs.WayOut.{Ended, Over, kills, led_by, next, onward, way_out}
 
 -- ---- kills
@@ -35,6 +41,13 @@ kill_active xs t made lt on =
 pub kill_none : (xs : List Txn) (t : ℕ) (made : List Choice) → t < length xs → is_active (txn_or (slice_get xs t)).status ≡ false
     → made ++ kills (t + 1) (drop (t + 1) xs) ≡ made ++ kills t (drop t xs)
 kill_none xs t made lt off = ap (λ cs. made ++ cs) (rw (drop_txn xs t lt, off) refl)
+
+-- a machine has a transaction for each program, so its scenario has what a kill of one names
+pub kill_named : (h : History) (t : ℕ) → IsReplay h → t < length h.state.txns → names_below (length h.scenario.programs) (Kill t) ≡ true
+kill_named h t replay lt =
+    let cs = choices_of h.entries in
+    let counts : Safe h.scenario (length cs) h.state = subst (Safe h.scenario (length cs)) (sym replay.state) (safe h.scenario replay.tested cs) in
+    lt-ltb t (length h.scenario.programs) (omega (arith, counts.txns, lt))
 
 -- ---- what comes next
 
@@ -60,7 +73,8 @@ next_on_way sc start s made c (suc n) ended is some rest =
     let more : Option Choice → List Choice = λ o. made ++ led_by o (λ d. onward sc n (step sc d s).after) in
     (n, append_assoc made (c ∷ []) (onward sc n (step sc c s).after) ∙ (ap more (sym some) ∙ rest))
 
--- where nothing comes next the way out is at its end
-pub at_end : (sc : Scenario) (s : State) (fuel : ℕ) → next s ≡ None → onward sc fuel s ≡ []
-at_end sc s zero none = refl
-at_end sc s (suc n) none = ap (λ o. led_by o (λ d. onward sc n (step sc d s).after)) none
+-- the migration of a machine has ended once its way out is made
+pub ended : (h : History) → IsReplay h → Ended h.state (play h.scenario h.state (way_out h.scenario h.state))
+ended h replay =
+    let sc = h.scenario in
+    subst (λ s. Ended s (play sc s (way_out sc s))) (sym replay.state) (no_dead_end sc replay.tested (choices_of h.entries))

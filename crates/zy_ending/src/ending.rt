@@ -1,4 +1,4 @@
-//! Ends the migration of a machine.
+//! The choices that end the migration of a machine.
 ghost use Rattle.std.specs.Prelude.{◌≡◌, ◌+◌, ◌<◌, ◌≤◌, true, Err, IfOk, OnOk, length};
 ghost use Rattle.zy_isa.specs.Choices.{names_below};
 ghost use Rattle.zy_isa.specs.Limits.{max_choices};
@@ -14,33 +14,31 @@ use crate::faults::EndingFault;
 use crate::next::next;
 use std::alloc::{AllocError, Global};
 use zy_isa::{Choice, MAX_CHOICES};
-use zy_laws::laws::no_dead_end;
 use zy_machine::Machine;
 
-/// The choices that end the migration of a machine: each active transaction is killed, and then comes what comes next, to
-/// the end. There are none where it is over and no transaction is active. The machine stays as it is: a copy makes them.
+/// The choices that end the migration of a machine: kills of its active transactions, and behind them the steps by which
+/// the nodes end it. There are none where no transaction is active and no migration goes on. The machine stays as it is: a
+/// copy of it makes them.
 pub fn way_out(alloc: Global, machine: &Machine) -> Result<Vec<Choice>, EndingFault>
     // They are those of the law, and after them the migration has ended.
     ensures choices { IfOk result (λ v. v.items ≡ laws.way_out machine.now.scenario machine.now.state) }
     ensures ended { IfOk result (λ v. Ended machine.now.state (play machine.now.scenario machine.now.state v.items)) }
-    // A history has room for them, and names no other transactions.
+    // The history has room for them.
     ensures room { IfOk result (λ v. length machine.now.entries + length v.items ≤ max_choices) }
-    // That there is no room is said only where there is none for all of them.
+    // It is full only where it has no room for all of them.
     ensures full { result ≡ Err NoRoom
         → max_choices < length machine.now.entries + length (laws.way_out machine.now.scenario machine.now.state) }
 {
+    // Proof: the machine's choices lead to its state, so the law `no_dead_end` speaks of it.
+    machine.entries();
     let mut replay = machine.copy(alloc)?;
     let made = end(alloc, machine, &mut replay);
     replay.discard();
     made
 }
 
-/// Ends the migration of a machine's copy, and gives the choices made.
-fn end(
-    alloc: Global,
-    machine: &Machine,
-    replay: &mut Machine,
-) -> Result<Vec<Choice>, EndingFault>
+/// Ends the migration of a machine's copy, and gives the choices that it made.
+fn end(alloc: Global, machine: &Machine, replay: &mut Machine) -> Result<Vec<Choice>, EndingFault>
     requires { replay.old ≡ machine.now }
     ensures choices { IfOk result (λ v. v.items ≡ laws.way_out machine.now.scenario machine.now.state) }
     ensures room { IfOk result (λ v. length machine.now.entries + length v.items ≤ max_choices) }
@@ -97,24 +95,20 @@ fn make_all(machine: &mut Machine, choices: &[Choice]) -> Result<(), EndingFault
     Ok(())
 }
 
-/// Makes what comes next, as long as something does, behind the choices that were made from a machine on.
-fn go_on(
-    machine: &Machine,
-    replay: &mut Machine,
-    made: &mut Vec<Choice>,
-) -> Result<(), EndingFault>
+/// Makes what comes next on a machine's copy, as long as something does, behind the choices that it has made.
+fn go_on(machine: &Machine, replay: &mut Machine, made: &mut Vec<Choice>) -> Result<(), EndingFault>
     requires { IsOnWay machine.now replay.old made.old.items }
     ensures choices { OnOk result (made.new.items ≡ laws.way_out machine.now.scenario machine.now.state) }
     ensures room { OnOk result (length machine.now.entries + length made.new.items ≤ max_choices) }
     ensures full { result ≡ Err NoRoom
         → max_choices < length machine.now.entries + length (laws.way_out machine.now.scenario machine.now.state) }
 {
-    // Proof: where the way out ends nothing comes next.
-    no_dead_end();
+    // Proof: by the law `no_dead_end` nothing comes next where the way out is at its end.
     machine.entries();
     'onward: while let Some(choice) = next(replay) {
+        made.reserve(1)?;
         make(replay, choice)?;
-        made.push(choice)?;
+        made.push_reserved(choice);
     }
     replay.entries();
     Ok(())
