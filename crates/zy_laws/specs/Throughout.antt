@@ -7,7 +7,7 @@ use Rattle.zy_table.specs.Play.{play, opening}
 use Rattle.zy_table.specs.Serial.{Serializable}
 use Rattle.zy_laws.specs.OneOwner.{OneOwner}
 use Rattle.zy_laws.specs.Strict.{StrictlySerializable}
-use Rattle.zy_laws.specs.WayOut.{Ended, way_out}
+use Rattle.zy_laws.specs.WayOut.{CanEnd}
 
 -- each page is in one place: at a node or in one message
 abbrev pub OwnedThroughout : Scenario → List Choice → Type 0
@@ -23,4 +23,4 @@ SerialThroughout sc choices = sc.rule ≡ Held → (n : ℕ) → Serializable sc
 
 -- the migration can be ended
 abbrev pub CanEndThroughout : Scenario → List Choice → Type 0
-CanEndThroughout sc choices = (n : ℕ) → let s = play sc (opening sc) (take n choices) in Ended s (play sc s (way_out sc s))
+CanEndThroughout sc choices = (n : ℕ) → CanEnd sc (take n choices)

@@ -13,7 +13,7 @@ use Rattle.zy_table.specs.State.{State, Txn, Message, facing}
 use Rattle.zy_table.specs.Change.{txn_or}
 use Rattle.zy_table.specs.Client.{is_active}
 use Rattle.zy_table.specs.Database.{database}
-use Rattle.zy_table.specs.Play.{play, step}
+use Rattle.zy_table.specs.Play.{opening, play, step}
 use Rattle.zy_laws.specs.Between.{NothingLeft}
 
 -- a kill of each active transaction of these, in order; the first of them is number t
@@ -73,6 +73,10 @@ pub record Ended (s later : State) : Type 0 where
   pub source : (n : Node) → is_source (facing n s).me.mode ≡ true → over.empty ≡ n
   pub commits : later.commits ≡ s.commits
   pub rows : database later ≡ database s
+
+-- after these choices the migration can be ended: the way out does
+pub record CanEnd (sc : Scenario) (choices : List Choice) : Type 0 where
+  pub ended : let s = play sc (opening sc) choices in Ended s (play sc s (way_out sc s))
 
 -- a migration step: a take, a finish or a push, which a node does of itself
 abbrev pub is_migration_step : Choice → Bool

@@ -14,7 +14,7 @@ ghost use Rattle.zy_laws.specs.Journey.{OneWireframe, is_gone, is_stray};
 ghost use Rattle.zy_laws.specs.Travel.{NeverBack, NoneStarted, Travels};
 ghost use Rattle.zy_laws.specs.OneOwner.{OneOwner};
 ghost use Rattle.zy_laws.specs.Between.{NothingLeft};
-ghost use Rattle.zy_laws.specs.WayOut.{EachActs, Ended, NoneActive, NoneActs, Over, enough, way_out};
+ghost use Rattle.zy_laws.specs.WayOut.{CanEnd, EachActs, NoneActive, NoneActs, Over, enough};
 ghost use Rattle.zy_table.specs.Holders.{ExclusiveAlone, HoldersActive};
 ghost use Rattle.zy_table.specs.Order.{InOrder};
 ghost use Rattle.zy_table.specs.Database.{ValuesAtPages, EachKeyHasPage, HasLows, RowsLie, database, newest};
@@ -115,8 +115,7 @@ pub fn nothing_left()
 /// transaction is active, the node that was the source is Empty and the other Normal, nothing is left of the migration,
 /// and commits and database are as they were. It is not said that anybody makes these choices.
 pub fn no_dead_end()
-    ensures { (sc : Scenario) → IsScenario sc → (choices : List AChoice)
-        → let s = play sc (opening sc) choices in Ended s (play sc s (way_out sc s)) }
+    ensures { (sc : Scenario) → IsScenario sc → (choices : List AChoice) → CanEnd sc choices }
 {}
 
 /// Migration steps (take, finish, push) run out, in whatever order they are chosen: at most `enough` of them, one after
@@ -187,9 +186,9 @@ pub fn serializable()
 
 /// Every run is strictly serializable, under both rules, in the migration order: of each migration first all that
 /// committed at its source, then all that committed at its destination, each in commit order. Each lone run in this order
-/// ends by its own commit, and each read of a committed transaction gave what it gives in the lone run. Aborted
-/// transactions saw nothing else either: each has a place in the order (opacity). Whoever commits before another begins
-/// precedes it, and the order of those that have committed never changes.
+/// ends by its own commit, and each read of a committed transaction gave what it gives in the lone run. An aborted
+/// transaction has a place in the order, too (opacity): it never saw anything that a serial run would not have shown it. A
+/// transaction that commits before another begins precedes it, and those that have committed never change their order.
 pub fn strictly_serializable()
     ensures { (sc : Scenario) → IsScenario sc → (choices : List AChoice) → StrictlySerializable sc choices }
 {}
