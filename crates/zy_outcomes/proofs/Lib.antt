@@ -1,0 +1,6 @@
+pub mod Acts
+pub mod Runs
+pub mod Steps
+pub mod Orderly
+pub mod Limits
+pub mod LockedHere
