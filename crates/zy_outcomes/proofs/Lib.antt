@@ -4,3 +4,4 @@ pub mod Steps
 pub mod Orderly
 pub mod Limits
 pub mod LockedHere
+pub mod Coming

@@ -23,6 +23,7 @@ use Rattle.zy_table.proofs.RangeLists.{found_has, none_passes}
 use Rattle.zy_table.specs.Change.{aborted, asks, committed, cut, did, locked, quiet, shares, txn_at, txn_or}
 use Rattle.zy_table.specs.Client.{is_active}
 use Rattle.zy_table.specs.Effects.{effect_of}
+use Rattle.zy_table.specs.Keys.{put_key}
 use Rattle.zy_table.specs.Numbers.{has, least, least_with}
 use Rattle.zy_table.specs.Pages.{owns}
 use Rattle.zy_table.specs.Ranges.{range_pages}
@@ -40,6 +41,7 @@ use Rattle.zy_table.specs.declared.outcome.Why.{Why}
 use Rattle.zy_table.specs.declared.outcome.Why.TheVariants as why
 use Rattle.zy_laws.proofs.walk.Events.{same_node-true}
 use Rattle.zy_outcomes.specs.Accounts.{IsNumbered, Says, counted, is_did}
+use Rattle.zy_outcomes.specs.Coming.{IsAwaited}
 use Rattle.zy_outcomes.specs.Reasons.{FindsFull, HasCause, HasReason, Next, RunsAt, Wants}
 
 -- what becomes of transaction t where this is said: nothing, or it is set; what it did, and its registers
@@ -71,6 +73,12 @@ least-has : (xs : List ℕ) (p : ℕ) → least xs ≡ Some p → has xs p ≡ t
 least-has [] p e = cc
 least-has (x ∷ xs) p e = least_with-has x p xs (let k : least_with x xs ≡ p = cc in k)
 
+-- a number that is put in its place is there
+pub has_put_new : (k : ℕ) (xs : List ℕ) → has (put_key k xs) k ≡ true
+has_put_new k [] = or_left _ _ (eq-eqb k k refl)
+has_put_new k (x ∷ xs) =
+    cond_both (nat_le k x) (k ∷ x ∷ xs) (x ∷ put_key k xs) (λ ys. has ys k ≡ true) (λ _. or_left _ _ (eq-eqb k k refl)) (λ _. or_right _ _ (has_put_new k xs))
+
 -- a page of private rows that is not here has one of them
 gone_row : (x : NodeState) (rows all : List Row) → ((k : ℕ) → is_some (get_row rows k) ≡ true → is_some (get_row all k) ≡ true) → (p : ℕ)
     → has (gone_pages x rows) p ≡ true
@@ -100,10 +108,13 @@ module _ (sc : Scenario) (n : Node) (t : ℕ) where
     pub fares : Fares t m.outcome v m.after
     pub sent : Says m.sent v.outbox m.after.outbox
     pub number : IsNumbered m.outcome m.after.commits
+    pub inbox : m.after.inbox ≡ v.inbox
+    pub awaited : IsAwaited m.outcome m.after.me
 
   -- nothing changes
-  rests : (v : View) (o : Outcome) → HasReason sc n v (Run n t) o → counted o ≡ 0 → IsNumbered o v.commits → Tells v (quiet v o)
-  rests v o reason none number = record { reason = reason; fares = Stays refl none; sent = refl; number = number }
+  rests : (v : View) (o : Outcome) → HasReason sc n v (Run n t) o → counted o ≡ 0 → IsNumbered o v.commits → IsAwaited o v.me → Tells v (quiet v o)
+  rests v o reason none number awaited =
+      record { reason = reason; fares = Stays refl none; sent = refl; number = number; inbox = refl; awaited = awaited }
 
   -- t aborts
   aborts : (v : View) (y : Why) → RunsAt v t n → HasCause sc n v (Run n t) t y → Tells v (abort_step t y v)
@@ -113,6 +124,8 @@ module _ (sc : Scenario) (n : Node) (t : ℕ) where
     fares = Goes _ at.0 refl (omega arith) (λ _. refl);
     sent = refl;
     number = tt;
+    inbox = refl;
+    awaited = tt;
   }
 
   -- the same with a lock taken
@@ -123,14 +136,16 @@ module _ (sc : Scenario) (n : Node) (t : ℕ) where
       subst (λ w. Tells v (quiet w (outcome.Aborted y))) (sym (aborted-locked t p kind y v)) (aborts v y at cause)
 
   -- t does an instruction, with its locks taken before
-  goes_on : (v w : View) (pc : ℕ) (regs : List ℕ) (rows : List Row) → RunsAt v t n → w.txns ≡ v.txns → w.outbox ≡ v.outbox
+  goes_on : (v w : View) (pc : ℕ) (regs : List ℕ) (rows : List Row) → RunsAt v t n → w.txns ≡ v.txns → w.outbox ≡ v.outbox → w.inbox ≡ v.inbox
       → Tells v (quiet (did t pc regs rows w) outcome.Did)
   unfolding did txn_at
-  goes_on v w pc regs rows at same out = let x = txn_at w t in let y : Txn = record x { pc = pc; regs = regs; rows = rows; done = x.done + 1 } in record {
+  goes_on v w pc regs rows at same out front = let x = txn_at w t in let y : Txn = record x { pc = pc; regs = regs; rows = rows; done = x.done + 1 } in record {
     reason = tt;
     fares = Goes y at.0 (ap (λ xs. slice_set xs t y) same) (ap (λ xs. (txn_or (slice_get xs t)).done + 1) same) (λ h. absurd (false≢true (sym h)));
     sent = out;
     number = tt;
+    inbox = front;
+    awaited = tt;
   }
 
   -- an insert on a full page
@@ -143,7 +158,7 @@ module _ (sc : Scenario) (n : Node) (t : ℕ) where
       (λ s. aborts_locked v p Exclusive (why.Frozen p) at (refl, full, not-true _ s))
       (λ s. cond_both (nat_le sc.pages (length v.me.lows)) _ _ (Tells v)
       (λ most. aborts_locked v p Exclusive why.NoPage at (p, refl, full, not-false _ s, leb-true _ _ most))
-      (λ _. record { reason = tt; fares = Stays refl refl; sent = refl; number = tt }))
+      (λ _. record { reason = tt; fares = Stays refl refl; sent = refl; number = tt; inbox = refl; awaited = tt }))
 
   -- an insert that has its lock
   insert_tells : (v : View) (k x : ℕ) → RunsAt v t n → Next sc t v (effect.Accesses (access.Inserts x) k)
@@ -154,7 +169,7 @@ module _ (sc : Scenario) (n : Node) (t : ℕ) where
       cond_both (is_there k p v.me (txn_at v t)) _ _ (Tells v)
       (λ there. aborts_locked v p Exclusive why.Duplicate at (refl, (k, x, next, there)))
       (λ new. cond_both (has_room sc p v.me (txn_at v t)) _ _ (Tells v)
-      (λ _. goes_on v (locked t p Exclusive v) _ _ _ at refl refl)
+      (λ _. goes_on v (locked t p Exclusive v) _ _ _ at refl refl refl)
       (λ full. full_tells v k x at (k, x, next, refl, new, full)))
 
   -- a write that has its lock
@@ -164,14 +179,14 @@ module _ (sc : Scenario) (n : Node) (t : ℕ) where
   write_tells v k x at next =
       let p = page_of v.me.lows k in
       cond_both (is_there k p v.me (txn_at v t)) _ _ (Tells v)
-      (λ _. goes_on v (locked t p Exclusive v) _ _ _ at refl refl)
+      (λ _. goes_on v (locked t p Exclusive v) _ _ _ at refl refl refl)
       (λ none. aborts_locked v p Exclusive why.Missing at (refl, (k, x, next, none)))
 
   -- an access that has its lock
   access_tells : (v : View) (i : Access) (k : ℕ) → RunsAt v t n → Next sc t v (effect.Accesses i k)
       → Tells v (access_step sc t i k (page_of v.me.lows k) (locked t (page_of v.me.lows k) (lock_of i) v))
   unfolding access_step read_step locked
-  access_tells v (access.Reads r) k at next = goes_on v (locked t (page_of v.me.lows k) Shared v) _ _ _ at refl refl
+  access_tells v (access.Reads r) k at next = goes_on v (locked t (page_of v.me.lows k) Shared v) _ _ _ at refl refl refl
   access_tells v (access.Writes x) k at next = write_tells v k x at next
   access_tells v (access.Inserts x) k at next = insert_tells v k x at next
 
@@ -183,12 +198,14 @@ module _ (sc : Scenario) (n : Node) (t : ℕ) where
       cond_both (not (may_pull v.me.mode)) _ _ (Tells v)
       (λ s. aborts v (why.Gone p) at (gone, inl (kind, wants, not-true _ s)))
       (λ s. cond_both (has v.me.asked p) _ _ (Tells v)
-      (λ asked. rests v (outcome.Awaits p) (t, kind, wants, gone, not-false _ s, asked) refl tt)
+      (λ asked. rests v (outcome.Awaits p) (t, kind, wants, gone, not-false _ s, asked) refl tt asked)
       (λ unasked. record {
         reason = (t, kind, wants, gone, not-false _ s, unasked);
         fares = Stays refl refl;
         sent = (Pull p, refl, refl);
         number = tt;
+        inbox = refl;
+        awaited = has_put_new p v.me.asked;
       }))
 
   -- an access, by its key and its page
@@ -202,7 +219,7 @@ module _ (sc : Scenario) (n : Node) (t : ℕ) where
       (λ _. cond_both (not (owns v.me.pages p)) _ _ (Tells v)
       (λ gone. absent_tells v p (lock_of i) at wants (not-true _ gone))
       (λ here. cond_both (conflict v.me.locks p t (lock_of i)) _ _ (Tells v)
-      (λ taken. rests v (outcome.Waits p) (t, lock_of i, wants, not-false _ here, taken) refl tt)
+      (λ taken. rests v (outcome.Waits p) (t, lock_of i, wants, not-false _ here, taken) refl tt tt)
       (λ _. access_tells v i k at next)))
 
   -- a sum whose pages are here
@@ -212,8 +229,8 @@ module _ (sc : Scenario) (n : Node) (t : ℕ) where
   unfolding sum_or_waits sum_step set_step shares
   sum_waits_tells v r a b (Some p) at next e here =
       let f = found_has (λ z. conflict v.me.locks z t Shared) (range_pages v.me.lows a b) p (sym e) in
-      rests v (outcome.Waits p) (t, Shared, record { run = refl; does = effect.Sums r a b; next = next; needs = (f.0, refl) }, here p f.0, f.1) refl tt
-  sum_waits_tells v r a b None at next e here = goes_on v (shares t (range_pages v.me.lows a b) v) _ _ _ at refl refl
+      rests v (outcome.Waits p) (t, Shared, record { run = refl; does = effect.Sums r a b; next = next; needs = (f.0, refl) }, here p f.0, f.1) refl tt tt
+  sum_waits_tells v r a b None at next e here = goes_on v (shares t (range_pages v.me.lows a b) v) _ _ _ at refl refl refl
 
   -- a sum with keys
   sum_tells : (v : View) (r : Reg) (a b : ℕ) (o : Option ℕ) → RunsAt v t n → Next sc t v (effect.Sums r a b)
@@ -230,7 +247,7 @@ module _ (sc : Scenario) (n : Node) (t : ℕ) where
   unfolding range_step set_step
   range_tells v r a b at next =
       cond_both (nat_lt b a) _ _ (Tells v)
-      (λ _. goes_on v v _ _ _ at refl refl)
+      (λ _. goes_on v v _ _ _ at refl refl refl)
       (λ rises. cond_both (nat_lt max_key b) _ _ (Tells v)
       (λ bad. aborts v why.BadKey at (effect.Sums r a b, refl, next, (rises, bad)))
       (λ _. sum_tells v r a b _ at next refl))
@@ -247,13 +264,15 @@ module _ (sc : Scenario) (n : Node) (t : ℕ) where
     fares = Goes _ at.0 refl refl (λ _. refl);
     sent = refl;
     number = let e = length-append v.commits (record { txn = t; done = (txn_at v t).done + 1 } ∷ []) in omega (arith, e);
+    inbox = refl;
+    awaited = tt;
   }
 
   -- each effect
   effect_tells : (v : View) (e : Effect) → RunsAt v t n → Next sc t v e → Tells v (effect_step sc t e v)
   unfolding effect_step set_step jump_step commit_step
-  effect_tells v (effect.Sets r x) at next = goes_on v v _ _ _ at refl refl
-  effect_tells v (effect.Jumps taken to) at next = goes_on v v _ _ _ at refl refl
+  effect_tells v (effect.Sets r x) at next = goes_on v v _ _ _ at refl refl refl
+  effect_tells v (effect.Jumps taken to) at next = goes_on v v _ _ _ at refl refl refl
   effect_tells v (effect.Accesses i k) at next = key_tells v i k at next
   effect_tells v (effect.Sums r a b) at next = range_tells v r a b at next
   effect_tells v effect.Commits at next = commit_tells v _ at next refl
@@ -263,7 +282,7 @@ module _ (sc : Scenario) (n : Node) (t : ℕ) where
   instr_tells : (v : View) (o : Option Instr) → RunsAt v t n → o ≡ slice_get (program_of sc t) (txn_at v t).pc
       → Tells v (instr_step sc t o (txn_at v t).regs v)
   unfolding instr_step
-  instr_tells v None at e = rests v outcome.Idle tt refl tt
+  instr_tells v None at e = rests v outcome.Idle tt refl tt tt
   instr_tells v (Some i) at e = effect_tells v (effect_of i (txn_at v t).regs) at (i, sym e, refl)
 
   -- a run
@@ -271,10 +290,10 @@ module _ (sc : Scenario) (n : Node) (t : ℕ) where
   unfolding run_step
   run_tells v =
       cond_both (not (is_active (txn_at v t).status)) _ _ (Tells v)
-      (λ _. rests v outcome.Idle tt refl tt)
+      (λ _. rests v outcome.Idle tt refl tt tt)
       (λ a. cond_both (not (same_node (txn_at v t).node n)) _ _ (Tells v)
-      (λ _. rests v outcome.Elsewhere tt refl tt)
+      (λ _. rests v outcome.Elsewhere tt refl tt tt)
       (λ h. let at : RunsAt v t n = (not-false _ a, same_node-true _ _ (not-false _ h)) in
       cond_both (is_waiting v.me.mode) _ _ (Tells v)
-      (λ waits. rests v outcome.NotYet (t, refl, at, waits_in v.me.mode waits) refl tt)
+      (λ waits. rests v outcome.NotYet (t, refl, at, waits_in v.me.mode waits) refl tt tt)
       (λ _. instr_tells v _ at refl)))

@@ -1,6 +1,6 @@
 -- What each step tells: the reason of its outcome, what becomes of each transaction, and what is sent.
 use Rattle.std.proofs.Common.{◌≡◌, ℕ, ◌+◌, ◌≤◌, List, [], ◌∷◌, true, false, refl, sym, ap, ◌∙◌, subst, inl, inr, arith, zero, suc}
-use Rattle.std.specs.Prelude.{Bool, if◌then◌else◌, ◌==◌, ◌&&◌, not, Some, None, Option, slice_get, slice_set, is_some, unwrap_or}
+use Rattle.std.specs.Prelude.{length, Bool, if◌then◌else◌, ◌==◌, ◌&&◌, not, Some, None, Option, slice_get, slice_set, is_some, unwrap_or}
 use Rattle.std.proofs.lemmas.Bool.{cond_both, false≢true, not-false, not-true, and_parts, cases_eq, eq-eqb, ne_eqb}
 use Rattle.zy_isa.specs.Scenario.{Scenario}
 use Rattle.zy_isa.specs.declared.choice.Choice.{Choice}
@@ -25,15 +25,17 @@ use Rattle.zy_table.specs.Pages.{leaf_at, owns}
 use Rattle.zy_table.specs.Play.{move, side_of, step}
 use Rattle.zy_table.specs.Push.{active_from, finish_if, finish_step, push_if, push_step}
 use Rattle.zy_table.specs.Run.{same_node}
-use Rattle.zy_table.specs.State.{Move, State, Txn, View, facing, seen_from}
+use Rattle.zy_table.specs.State.{Move, NodeState, State, Txn, View, facing, seen_from}
 use Rattle.zy_table.specs.Take.{arrival_step, front_step, is_held, message_step, outcome_of, pull_step, take_step, with_answer}
 use Rattle.zy_table.specs.declared.entry.CommitRecord.{CommitRecord}
 use Rattle.zy_table.specs.declared.outcome.Outcome.{Outcome}
 use Rattle.zy_table.specs.declared.outcome.Outcome.TheVariants as outcome
+use Rattle.zy_laws.proofs.owner.MovingPages.{owns-without}
 use Rattle.zy_laws.proofs.walk.Events.{same_node-true}
 use Rattle.zy_laws.proofs.walk.Txns.{at_either, at_other, at_same, at_self, at_side}
 use Rattle.zy_outcomes.proofs.Runs.{Fares, Goes, Stays, Tells, run_tells}
 use Rattle.zy_outcomes.specs.Accounts.{Accounts, IsNumbered, Says, counted, is_did, runs}
+use Rattle.zy_outcomes.specs.Coming.{IsAwaited}
 use Rattle.zy_outcomes.specs.Reasons.{HasReason, RunsAt}
 
 -- ---- the lowest active transaction
@@ -90,11 +92,21 @@ lowest_of n i (x ∷ xs) t e =
 pub record Blank (v : View) : Type 0 where
   pub each : (t : ℕ) → is_new (txn_at v t).status ≡ true → txn_at v t ≡ nobody
 
+-- a pull that is taken and changes nothing else asks for a page that is not here
+abbrev pub Stale : View → View → Type 0
+Stale v w = (p : ℕ) (ms : List Message) → v.inbox ≡ Pull p ∷ ms → w.inbox ≡ ms → w.me ≡ v.me → owns v.me.pages p ≡ false
+
+-- where no message is taken, none was a pull
+none_taken : (v : View) (x : NodeState) (p : ℕ) (ms : List Message) → v.inbox ≡ Pull p ∷ ms → v.inbox ≡ ms → x ≡ v.me → owns v.me.pages p ≡ false
+none_taken v x p ms f e h = let a = ap length f in let b = ap length e in absurd (omega (arith, a, b))
+
 -- what a move tells, where those that have not begun have nothing yet
 pub record Told (sc : Scenario) (n : Node) (v : View) (c : Choice) (m : Move) : Type 0 where
   pub reason : HasReason sc n v c m.outcome
   pub sent : Says m.sent v.outbox m.after.outbox
   pub number : IsNumbered m.outcome m.after.commits
+  pub stale : Stale v m.after
+  pub awaited : IsAwaited m.outcome m.after.me
   pub accounts : Blank v → (u : ℕ) → Accounts c m.outcome u (txn_at v u) (txn_at m.after u)
 
 -- where a transaction stays what it was and is not run, nothing is to be accounted for
@@ -142,26 +154,40 @@ fares_accounts n t o v w (Goes y active set done regs) u = elim (cases_eq u t) [
       idle_accounts (Run n t) o u (txn_at v u) (txn_at w u) (ne_eqb t u (λ h. far (sym h))) (ap (λ (x : Txn). x.done) e) (ap (λ (x : Txn). x.regs) e)
 ]
 
+-- an outcome alone
+stays : (sc : Scenario) (n : Node) (c : Choice) (v : View) (o : Outcome) → ((u : ℕ) → runs c u ≡ false) → HasReason sc n v c o
+    → IsNumbered o v.commits → IsAwaited o v.me → Told sc n v c (quiet v o)
+stays sc n c v o off reason number awaited = record {
+  reason = reason;
+  sent = refl;
+  number = number;
+  stale = none_taken v v.me;
+  awaited = awaited;
+  accounts = apart c o v v off refl;
+}
+
 -- a run tells
 run_told : (sc : Scenario) (n : Node) (t : ℕ) (v : View) (m : Move) → Tells sc n t v m → Told sc n v (Run n t) m
-run_told sc n t v m x = record { reason = x.reason; sent = x.sent; number = x.number; accounts = λ _ u. fares_accounts n t m.outcome v m.after x.fares u }
+run_told sc n t v m x = record { reason = x.reason; sent = x.sent; number = x.number; stale = λ p ms f e h. none_taken v m.after.me p ms f (sym x.inbox ∙ e) h; awaited = x.awaited; accounts = λ _ u. fares_accounts n t m.outcome v m.after x.fares u }
 
 -- a kill
 kill_told : (sc : Scenario) (n : Node) (t : ℕ) (v : View) → (txn_at v t).node ≡ n → Told sc n v (Kill t) (kill_step t v)
 unfolding kill_step aborted
 kill_told sc n t v here =
     cond_both (is_active (txn_at v t).status) _ _ (Told sc n v (Kill t))
-    (λ a. record { reason = (t, (a, here), refl); sent = refl; number = tt; accounts = λ _. sets (Kill t) _ v _ t _ (λ _. refl) refl refl refl })
-    (λ _. record { reason = tt; sent = refl; number = tt; accounts = apart (Kill t) _ v v (λ _. refl) refl })
+    (λ a. record { reason = (t, (a, here), refl); sent = refl; number = tt; stale = none_taken v _; awaited = tt; accounts = λ _. sets (Kill t) _ v _ t _ (λ _. refl) refl refl refl })
+    (λ _. stays sc n (Kill t) v _ (λ _. refl) tt tt tt)
 
 -- a begin at a node, or at none
 begin_at_told : (sc : Scenario) (n : Node) (t : ℕ) (o : Option Node) (v : View) → is_new (txn_at v t).status ≡ true → Told sc n v (Begin t) (begin_at o t v)
 unfolding begin_at begun
-begin_at_told sc n t None v new = record { reason = tt; sent = refl; number = tt; accounts = apart (Begin t) _ v v (λ _. refl) refl }
+begin_at_told sc n t None v new = stays sc n (Begin t) v _ (λ _. refl) tt tt tt
 begin_at_told sc n t (Some h) v new = record {
   reason = tt;
   sent = refl;
   number = tt;
+  stale = none_taken v _;
+  awaited = tt;
   accounts = λ blank. let e = blank.each t new in
       sets (Begin t) _ v _ t _ (λ _. refl) refl (sym (ap (λ (x : Txn). x.done) e)) (sym (ap (λ (x : Txn). x.regs) e));
 }
@@ -172,15 +198,15 @@ unfolding begin_step
 begin_told sc n t v =
     cond_both (is_new (txn_at v t).status) _ _ (Told sc n v (Begin t))
     (λ new. begin_at_told sc n t _ v new)
-    (λ _. record { reason = tt; sent = refl; number = tt; accounts = apart (Begin t) _ v v (λ _. refl) refl })
+    (λ _. stays sc n (Begin t) v _ (λ _. refl) tt tt tt)
 
 -- a start
 start_told : (sc : Scenario) (n : Node) (v : View) → Told sc n v Start (start_step v)
 unfolding start_step
 start_told sc n v =
     cond_both (may_start v.me.mode v.them.mode) _ _ (Told sc n v Start)
-    (λ _. record { reason = tt; sent = (Wire v.me.lows, refl, refl); number = tt; accounts = apart Start _ v _ (λ _. refl) refl })
-    (λ _. record { reason = tt; sent = refl; number = tt; accounts = apart Start _ v v (λ _. refl) refl })
+    (λ _. record { reason = tt; sent = (Wire v.me.lows, refl, refl); number = tt; stale = none_taken v _; awaited = tt; accounts = apart Start _ v _ (λ _. refl) refl })
+    (λ _. stays sc n Start v _ (λ _. refl) tt tt tt)
 
 -- who is found is the lowest that runs at n
 lowest_runs : (n : Node) (t : ℕ) (v : View) → active_from n 0 v.txns ≡ Some t → RunsAt v t n × ((u : ℕ) → RunsAt v u n → t ≤ u)
@@ -195,17 +221,17 @@ lowest_runs n t v e =
 finish_told : (sc : Scenario) (n : Node) (mode : NodeMode) (o : Option ℕ) (v : View) → active_from n 0 v.txns ≡ o
     → Told sc n v (Finish_at n) (finish_if (on_finish mode (is_some o)) (unwrap_or o 0) v)
 unfolding finish_if
-finish_told sc n SDual None v e = record { reason = tt; sent = (Finish, refl, refl); number = tt; accounts = apart (Finish_at n) _ v _ (λ _. refl) refl }
+finish_told sc n SDual None v e = record { reason = tt; sent = (Finish, refl, refl); number = tt; stale = none_taken v _; awaited = tt; accounts = apart (Finish_at n) _ v _ (λ _. refl) refl }
 finish_told sc n SDual (Some t) v e =
     let k = lowest_runs n t v e in
-    record { reason = (refl, k.0, k.1); sent = refl; number = tt; accounts = apart (Finish_at n) _ v v (λ _. refl) refl }
-finish_told sc n mode o v e = record { reason = tt; sent = refl; number = tt; accounts = apart (Finish_at n) _ v v (λ _. refl) refl }
+    stays sc n (Finish_at n) v (outcome.Active t) (λ _. refl) (refl, k.0, k.1) tt tt
+finish_told sc n mode o v e = stays sc n (Finish_at n) v _ (λ _. refl) tt tt tt
 
 -- a push of a page, or of none
 push_if_told : (sc : Scenario) (n : Node) (o : Option ℕ) (v : View) → Told sc n v (Push n) (push_if o v)
 unfolding push_if leaves
-push_if_told sc n None v = record { reason = tt; sent = refl; number = tt; accounts = apart (Push n) _ v v (λ _. refl) refl }
-push_if_told sc n (Some p) v = record { reason = tt; sent = (Page (leaf_at v.me.pages p), refl, refl); number = tt; accounts = apart (Push n) _ v _ (λ _. refl) refl }
+push_if_told sc n None v = stays sc n (Push n) v _ (λ _. refl) tt tt tt
+push_if_told sc n (Some p) v = record { reason = tt; sent = (Page (leaf_at v.me.pages p), refl, refl); number = tt; stale = none_taken v _; awaited = tt; accounts = apart (Push n) _ v _ (λ _. refl) refl }
 
 -- a push
 push_told : (sc : Scenario) (n : Node) (v : View) → Told sc n v (Push n) (push_step v)
@@ -213,7 +239,7 @@ unfolding push_step
 push_told sc n v =
     cond_both (may_push v.me.mode) _ _ (Told sc n v (Push n))
     (λ _. push_if_told sc n _ v)
-    (λ _. record { reason = tt; sent = refl; number = tt; accounts = apart (Push n) _ v v (λ _. refl) refl })
+    (λ _. stays sc n (Push n) v _ (λ _. refl) tt tt tt)
 
 -- ---- messages
 
@@ -237,46 +263,77 @@ answers DDual kind.Finish true out far = (Done, refl, refl)
 answers SFinish kind.Done all out far = refl
 answers mode k all out far = tt
 
+-- the fronts of equal links are the same message
+first_same : {m k : Message} {ms ks : List Message} → (m ∷ ms) ≡ (k ∷ ks) → m ≡ k
+first_same e = cc
+
+-- equal pulls ask for one page
+pull_same : {p q : ℕ} → Pull p ≡ Pull q → p ≡ q
+pull_same e = cc
+
 -- n takes a message
 module _ (sc : Scenario) (n : Node) where
-  -- nothing changes
-  takes_none : (v : View) (o : Outcome) → HasReason sc n v (Take n) o → IsNumbered o v.commits → Told sc n v (Take n) (quiet v o)
-  takes_none v o reason number = record { reason = reason; sent = refl; number = number; accounts = apart (Take n) o v v (λ _. refl) refl }
-
   -- a message that is no pull arrives
-  arrives : (m : Message) (v : View) (ms : List Message) (y : MessageLine) → Answers y v.outbox → HasReason sc n v (Take n) (outcome_of m)
-      → ((cs : List CommitRecord) → IsNumbered (outcome_of m) cs) → Told sc n v (Take n) (arrival_step y m v (record v { inbox = ms }))
+  arrives : (m : Message) (v : View) (ms : List Message) (y : MessageLine) → v.inbox ≡ m ∷ ms → ((p : ℕ) → m ≡ Pull p → ⊥) → Answers y v.outbox
+      → HasReason sc n v (Take n) (outcome_of m) → ((cs : List CommitRecord) → IsNumbered (outcome_of m) cs)
+      → ((x : NodeState) → IsAwaited (outcome_of m) x) → Told sc n v (Take n) (arrival_step y m v (record v { inbox = ms }))
   unfolding arrival_step
-  arrives m v ms Stray a reason number = takes_none v outcome.Stray tt tt
-  arrives m v ms (Turns mode sent) a reason number = record { reason = reason; sent = a; number = number _; accounts = apart (Take n) _ v _ (λ _. refl) refl }
+  arrives m v ms Stray f far a reason number awaited = stays sc n (Take n) v outcome.Stray (λ _. refl) tt tt tt
+  arrives m v ms (Turns mode sent) f far a reason number awaited = record {
+    reason = reason;
+    sent = a;
+    number = number _;
+    stale = λ p xs g _ _. absurd (far p (first_same (sym f ∙ g)));
+    awaited = awaited _;
+    accounts = apart (Take n) _ v _ (λ _. refl) refl;
+  }
 
   -- a pull is taken, or it is not
   pulled : (p : ℕ) (v : View) (ms : List Message) (y : MessageLine) → v.inbox ≡ Pull p ∷ ms → Told sc n v (Take n) (pull_step sc p y v (record v { inbox = ms }))
   unfolding pull_step leaves
-  pulled p v ms Stray f = takes_none v outcome.Stray tt tt
+  pulled p v ms Stray f = stays sc n (Take n) v outcome.Stray (λ _. refl) tt tt tt
   pulled p v ms (Turns mode sent) f =
       let front : slice_get v.inbox 0 ≡ Some (Pull p) = ap (λ xs. slice_get xs 0) f in
+      let asked : (q : ℕ) (xs : List Message) → v.inbox ≡ Pull q ∷ xs → p ≡ q = λ q xs g. pull_same (first_same (sym f ∙ g)) in
       cond_both (not (owns v.me.pages p)) _ _ (Told sc n v (Take n))
-      (λ gone. record { reason = (refl, front, not-true _ gone); sent = refl; number = tt; accounts = apart (Take n) _ v _ (λ _. refl) refl })
+      (λ gone. record {
+        reason = (refl, front, not-true _ gone);
+        sent = refl;
+        number = tt;
+        stale = λ q xs g _ _. subst (λ z. owns v.me.pages z ≡ false) (asked q xs g) (not-true _ gone);
+        awaited = tt;
+        accounts = apart (Take n) _ v _ (λ _. refl) refl;
+      })
       (λ here. cond_both (is_held sc.rule && is_locked v.me.locks p) _ _ (Told sc n v (Take n))
-      (λ held. let both = and_parts _ _ held in takes_none v (outcome.Held p) (refl, front, held_rule sc.rule both.0, not-false _ here, both.1) tt)
-      (λ _. record { reason = tt; sent = (Page (leaf_at v.me.pages p), refl, refl); number = tt; accounts = apart (Take n) _ v _ (λ _. refl) refl }))
+      (λ held. let both = and_parts _ _ held in
+      stays sc n (Take n) v (outcome.Held p) (λ _. refl) (refl, front, held_rule sc.rule both.0, not-false _ here, both.1) tt tt)
+      (λ _. record {
+        reason = tt;
+        sent = (Page (leaf_at v.me.pages p), refl, refl);
+        number = tt;
+        stale = λ q xs g _ h. subst (λ z. owns v.me.pages z ≡ false) (asked q xs g)
+            (ap (λ (x : NodeState). owns x.pages p) (sym h) ∙ owns-without p v.me.pages);
+        awaited = tt;
+        accounts = apart (Take n) _ v _ (λ _. refl) refl;
+      }))
 
   -- a message of each kind
   message_told : (m : Message) (v : View) (ms : List Message) → v.inbox ≡ m ∷ ms → Told sc n v (Take n) (message_step sc m v (record v { inbox = ms }))
   unfolding message_step
-  message_told (Wire lows) v ms f = arrives (Wire lows) v ms _ (answers v.me.mode kind.Wire _ v.outbox (λ e. cc)) tt (λ _. tt)
-  message_told Ready v ms f = arrives Ready v ms _ (answers v.me.mode kind.Ready _ v.outbox (λ e. cc)) tt (λ _. tt)
-  message_told Dual v ms f = arrives Dual v ms _ (answers v.me.mode kind.Dual _ v.outbox (λ e. cc)) tt (λ _. tt)
+  message_told (Wire lows) v ms f =
+      arrives (Wire lows) v ms _ f (λ p e. cc) (answers v.me.mode kind.Wire _ v.outbox (λ e. cc)) tt (λ _. tt) (λ _. tt)
+  message_told Ready v ms f = arrives Ready v ms _ f (λ p e. cc) (answers v.me.mode kind.Ready _ v.outbox (λ e. cc)) tt (λ _. tt) (λ _. tt)
+  message_told Dual v ms f = arrives Dual v ms _ f (λ p e. cc) (answers v.me.mode kind.Dual _ v.outbox (λ e. cc)) tt (λ _. tt) (λ _. tt)
   message_told (Pull p) v ms f = pulled p v ms _ f
-  message_told (Page leaf) v ms f = arrives (Page leaf) v ms _ (answers v.me.mode kind.Page _ v.outbox (λ e. cc)) tt (λ _. tt)
-  message_told Finish v ms f = arrives Finish v ms _ (answers v.me.mode kind.Finish _ v.outbox (λ e. cc)) tt (λ _. tt)
-  message_told Done v ms f = arrives Done v ms _ (answers v.me.mode kind.Done _ v.outbox (λ e. cc)) tt (λ _. tt)
+  message_told (Page leaf) v ms f =
+      arrives (Page leaf) v ms _ f (λ p e. cc) (answers v.me.mode kind.Page _ v.outbox (λ e. cc)) tt (λ _. tt) (λ _. tt)
+  message_told Finish v ms f = arrives Finish v ms _ f (λ p e. cc) (answers v.me.mode kind.Finish _ v.outbox (λ e. cc)) tt (λ _. tt) (λ _. tt)
+  message_told Done v ms f = arrives Done v ms _ f (λ p e. cc) (answers v.me.mode kind.Done _ v.outbox (λ e. cc)) tt (λ _. tt) (λ _. tt)
 
   -- the front of the link, if there is one
   front_told : (ms : List Message) (v : View) → v.inbox ≡ ms → Told sc n v (Take n) (front_step sc ms v)
   unfolding front_step
-  front_told [] v f = takes_none v outcome.NoMessage tt tt
+  front_told [] v f = stays sc n (Take n) v outcome.NoMessage (λ _. refl) tt tt tt
   front_told (m ∷ ms) v f = message_told m v ms f
 
   -- a take
@@ -320,6 +377,15 @@ sent_is_said sc c s =
 same_commits : (n : Node) (w : View) → (seen_from n w).commits ≡ w.commits
 same_commits A w = refl
 same_commits B w = refl
+
+-- a page that is said to come is asked for
+pub step_awaited : (sc : Scenario) (c : Choice) (s : State) → let n = side_of sc c s in let x = step sc c s in
+    IsAwaited x.outcome (facing n x.after).me
+unfolding step
+step_awaited sc c s =
+    let n = side_of sc c s in
+    let m = move sc c (facing n s) in
+    subst (λ (w : View). IsAwaited m.outcome w.me) (sym (face n m.after)) (step_told sc c s).awaited
 
 -- the law: a commit's number is its place
 pub commit_number : (sc : Scenario) (c : Choice) (s : State) → let x = step sc c s in IsNumbered x.outcome x.after.commits

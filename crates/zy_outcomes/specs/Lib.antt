@@ -1,3 +1,4 @@
-pub mod Beginnings
-pub mod Reasons
 pub mod Accounts
+pub mod Beginnings
+pub mod Coming
+pub mod Reasons

@@ -15,6 +15,7 @@ ghost use Rattle.zy_table.specs.State.{State, facing};
 ghost use Rattle.zy_laws.specs.Journey.{is_gone};
 ghost use Rattle.zy_outcomes.specs.Accounts.{Accounts, IsNumbered, Says, txn_of};
 ghost use Rattle.zy_outcomes.specs.Beginnings.{Begins, MayStart};
+ghost use Rattle.zy_outcomes.specs.Coming.{IsAwaited, OnItsWay};
 ghost use Rattle.zy_outcomes.specs.Reasons.{HasReason, Next};
 
 /// A `begin` of a new transaction always acts: there is always a node for it, which is not idle and hands over no page.
@@ -82,4 +83,17 @@ pub fn private_active()
 pub fn commit_number()
     ensures { (sc : Scenario) (choice : AChoice) (s : State)
         → let x = step sc choice s in IsNumbered x.outcome x.after.commits }
+{}
+
+/// Each page that a node asked for is on its way: its pull to the other node, or the page itself back. It is asked for
+/// once.
+pub fn on_its_way()
+    ensures { (sc : Scenario) → IsScenario sc → (choices : List AChoice) (n : Node)
+        → OnItsWay (facing n (play sc (opening sc) choices)) }
+{}
+
+/// A page that a transaction pulls or awaits is one that its node asked for; so, with `on_its_way`, it is on its way.
+pub fn what_is_awaited_was_asked_for()
+    ensures { (sc : Scenario) (choice : AChoice) (s : State)
+        → let x = step sc choice s in IsAwaited x.outcome (facing (side_of sc choice s) x.after).me }
 {}
