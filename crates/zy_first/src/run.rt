@@ -1,7 +1,7 @@
 //! From the bytes of a scenario text to those of its listing.
 ghost use Rattle.std.specs.Prelude.{◌<◌, IfErr, IfOk};
 ghost use Rattle.zy_io.specs.Inputs.{ReadsInput, streams};
-ghost use Rattle.zy_laws.specs.Throughout.{OwnedThroughout, SerialThroughout, StrictThroughout};
+ghost use Rattle.zy_laws.specs.Throughout.{CanEndThroughout, OwnedThroughout, SerialThroughout, StrictThroughout};
 ghost use Rattle.zy_first.specs.Runs.{IsFaultOf, IsTextOf, Lists, of_reading};
 
 use crate::faults::RunFault;
@@ -30,6 +30,7 @@ fn run_text<K: Sink>(alloc: Global, text: &[u8], sink: &mut K) -> Result<Machine
     ensures owned { IfOk result (λ m. OwnedThroughout m.scenario m.scenario.choices) }
     ensures strict { IfOk result (λ m. StrictThroughout m.scenario m.scenario.choices) }
     ensures serial { IfOk result (λ m. SerialThroughout m.scenario m.scenario.choices) }
+    ensures ends { IfOk result (λ m. CanEndThroughout m.scenario m.scenario.choices) }
 {
     let scenario = accept(alloc, text)?;
     let machine = write_run(alloc, scenario, sink)?;
@@ -47,11 +48,12 @@ pub fn run<S: Source, K: Sink>(
     requires { (S.failures source.old < u64.MAX) × (K.failures sink.old < u64.MAX) }
     ensures run { let at = streams S.left S.failures S.given K.written K.failures in
         ReadsInput of_reading Lists (at source.old sink.old) (at source.new sink.new) result }
-    // At every point of the run each page is in one place, the run is strictly serializable, and under `held` the
-    // database is that of the commits one by one.
+    // At every point of the run each page is in one place, the run is strictly serializable, under `held` the database
+    // is that of the commits one by one, and the migration can be ended.
     ensures owned { IfOk result (λ m. OwnedThroughout m.scenario m.scenario.choices) }
     ensures strict { IfOk result (λ m. StrictThroughout m.scenario m.scenario.choices) }
     ensures serial { IfOk result (λ m. SerialThroughout m.scenario m.scenario.choices) }
+    ensures ends { IfOk result (λ m. CanEndThroughout m.scenario m.scenario.choices) }
 {
     *input = read_all(alloc, source)?;
     run_text(alloc, input.as_slice(), sink)

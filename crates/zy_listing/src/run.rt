@@ -1,6 +1,6 @@
 //! A whole run: all choices of a scenario, and their listing.
 ghost use Rattle.std.specs.Prelude.{◌<◌};
-ghost use Rattle.zy_laws.specs.Throughout.{OwnedThroughout, SerialThroughout, StrictThroughout};
+ghost use Rattle.zy_laws.specs.Throughout.{CanEndThroughout, OwnedThroughout, SerialThroughout, StrictThroughout};
 ghost use Rattle.zy_listing.specs.Run.{listing_run, WroteRun};
 
 use crate::listing::write_listing;
@@ -18,11 +18,12 @@ pub fn write_run<K: Sink>(
     requires { K.failures sink.old < u64.MAX }
     ensures run { WroteRun listing_run scenario (K.written sink.old) (K.written sink.new) (K.failures sink.old)
         (K.failures sink.new) result }
-    // At every point of the run each page is in one place, the run is strictly serializable, and under `held` the
-    // database is that of the commits one by one.
+    // At every point of the run each page is in one place, the run is strictly serializable, under `held` the database
+    // is that of the commits one by one, and the migration can be ended.
     ensures owned { OwnedThroughout scenario scenario.choices }
     ensures strict { StrictThroughout scenario scenario.choices }
     ensures serial { SerialThroughout scenario scenario.choices }
+    ensures ends { CanEndThroughout scenario scenario.choices }
 {
     let machine = Machine::run_all(alloc, scenario)?;
     match write_listing(alloc, &machine, sink) {
