@@ -53,13 +53,10 @@ fn end_of(statement: Statement<'_>) -> SourceWord<'_> {
 /// the line looks like one.
 impl fmt::Display for RefusedLine<'_> {
     fn fmt<W: fmt::Write>(&self, f: &mut fmt::Formatter<W>) -> fmt::Result {
-        let LogLineFault { line, expected, .. } = self.refusal;
-        let (kind, place) = (expected.kind(), misfit(self.statement(), self.refusal.word));
-        let origin = Origin::at(self.file, place.position(line));
-        write!(
-            f,
-            "{origin}: Input(line {line}, {kind:?}): {expected} ({place})"
-        )?;
+        let refusal = self.refusal;
+        let place = misfit(self.statement(), refusal.word);
+        let origin = Origin::at(self.file, place.position(refusal.line));
+        write!(f, "{origin}: {refusal} ({place})")?;
         if self.is_object() {
             f.write_str(": --json reads objects")?;
         }

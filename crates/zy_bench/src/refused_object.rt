@@ -39,10 +39,10 @@ impl<'a> RefusedObject<'a> {
 /// Where it is, what is wrong, and the line.
 impl fmt::Display for RefusedObject<'_> {
     fn fmt<W: fmt::Write>(&self, f: &mut fmt::Formatter<W>) -> fmt::Result {
-        let JsonLineFault { line, fault } = self.refusal;
-        let origin = Origin::at(self.file, start_of(line));
-        let told = Excerpt::of(SourceLine::of(self.input, line).bytes.trim_ascii(), 0);
-        write!(f, "{origin}: Input(line {line}, Json): {fault}: {told}")
+        let refusal = self.refusal;
+        let origin = Origin::at(self.file, start_of(refusal.line));
+        let told = Excerpt::of(SourceLine::of(self.input, refusal.line).bytes.trim_ascii(), 0);
+        write!(f, "{origin}: {refusal}: {told}")
     }
 }
 
@@ -84,16 +84,9 @@ pub struct RefusedTold<'a> {
 /// Where the object is, the fault's name, what is expected, and the line that it tells with the word at fault marked.
 impl fmt::Display for RefusedTold<'_> {
     fn fmt<W: fmt::Write>(&self, f: &mut fmt::Formatter<W>) -> fmt::Result {
-        let LogLineFault {
-            line,
-            word,
-            expected,
-        } = self.refusal;
-        let (kind, place) = (expected.kind(), misfit(self.told, word));
-        let origin = Origin::at(self.file, start_of(line));
-        write!(
-            f,
-            "{origin}: Input(line {line}, {kind:?}): {expected} (told as a line, {place})"
-        )
+        let refusal = self.refusal;
+        let place = misfit(self.told, refusal.word);
+        let origin = Origin::at(self.file, start_of(refusal.line));
+        write!(f, "{origin}: {refusal} (told as a line, {place})")
     }
 }

@@ -12,7 +12,7 @@ use zy_io::{ReadFault, TextFault};
 #[derive(Clone, Copy, Debug, Error)]
 pub enum BenchFault {
     /// The scenario text is rejected: this is its first faulty line.
-    #[error("Input(line {}, {:?}): {}", .0.line, .0.reason.kind(), .0.reason)]
+    #[error(transparent)]
     Input(LineFault),
     /// The image is rejected.
     #[error("Image({:?}): {}", .0.fault, .0)]

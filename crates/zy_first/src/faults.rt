@@ -11,7 +11,7 @@ use zy_io::{ReadFault, TextFault, WriteFault};
 #[derive(Clone, Copy, Debug, Error)]
 pub enum RunFault {
     /// The scenario text is rejected: this is its first faulty line.
-    #[error("Input(line {}, {:?}): {}", .0.line, .0.reason.kind(), .0.reason)]
+    #[error(transparent)]
     Input(LineFault),
     /// There are over 4,194,304 bytes.
     #[error("TooLong: an input has at most 4194304 bytes")]

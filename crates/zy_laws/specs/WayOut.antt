@@ -75,8 +75,8 @@ pub record Ended (s later : State) : Type 0 where
   pub rows : database later ≡ database s
 
 -- after these choices the migration can be ended: the way out does
-pub record CanEnd (sc : Scenario) (choices : List Choice) : Type 0 where
-  pub ended : let s = play sc (opening sc) choices in Ended s (play sc s (way_out sc s))
+unfoldable pub CanEnd : Scenario → List Choice → Type 0
+CanEnd sc choices = let s = play sc (opening sc) choices in Ended s (play sc s (way_out sc s))
 
 -- a migration step: a take, a finish or a push, which a node does of itself
 abbrev pub is_migration_step : Choice → Bool

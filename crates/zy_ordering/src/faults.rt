@@ -4,7 +4,6 @@ ghost use Rattle.zy_engine.specs.Faults.{of_writing};
 ghost use Rattle.zy_ordering.specs.declared.faults.OrderFault.TheVariants.{Bench};
 ghost use Rattle.zy_ordering.specs.Faults.{of_below, of_logs, of_objects, of_reading, status_of};
 
-use std::alloc::AllocError;
 use thiserror::Error;
 use zy_engine::BenchFault;
 use zy_io::TextFault;

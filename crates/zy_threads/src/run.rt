@@ -1,7 +1,7 @@
 //! Three workers on one board.
 ghost use Rattle.std.specs.Prelude.{◌≡◌, IfOk};
 ghost use Rattle.zy_isa.specs.declared.node.Actor.TheVariants.{C as client, A as node_a, B as node_b};
-ghost use Rattle.zy_laws.specs.Throughout.{OwnedThroughout, SerialThroughout, StrictThroughout};
+ghost use Rattle.zy_laws.specs.Throughout.{CanEndThroughout, OwnedThroughout, SerialThroughout, StrictThroughout};
 ghost use Rattle.zy_machine.specs.Histories.{choices_of};
 ghost use Rattle.zy_threads.specs.Orders.{IsRunOf, reordered};
 ghost use Rattle.zy_threads.specs.Turns.{IsLedgerOf, IsMerge};
@@ -17,7 +17,7 @@ use std::sync::{Mutex, Wait};
 use std::thread;
 use std::thread::Threads;
 use zy_isa::{Actor, Scenario};
-use zy_laws::laws::{one_owner, serializable, strictly_serializable};
+use zy_laws::laws::{no_dead_end, one_owner, serializable, strictly_serializable};
 use zy_machine::{Fault, Machine};
 
 /// Something for each actor: the client, node A and node B.
@@ -221,16 +221,18 @@ pub fn run_threads(
     ensures merge { IfOk result (λ m. IsMerge (choices_of m.entries) scenario.choices) }
     // One thread that makes the choices in the order that was taken comes to the same.
     ensures run { IfOk result (λ m. IsRunOf (reordered m.scenario (choices_of m.entries)) m) }
-    // At every point of it each page is in one place, the run is strictly serializable, and under `held` the
-    // database is that of the commits one by one.
+    // At every point of it each page is in one place, the run is strictly serializable, under `held` the database is
+    // that of the commits one by one, and the migration can be ended.
     ensures owned { IfOk result (λ m. OwnedThroughout m.scenario (choices_of m.entries)) }
     ensures strict { IfOk result (λ m. StrictThroughout m.scenario (choices_of m.entries)) }
     ensures serial { IfOk result (λ m. SerialThroughout m.scenario (choices_of m.entries)) }
+    ensures ends { IfOk result (λ m. CanEndThroughout m.scenario (choices_of m.entries)) }
 {
     // Proof: all of this holds at every point of every schedule.
     one_owner();
     strictly_serializable();
     serializable();
+    no_dead_end();
     let machine = run_allowed(rt, alloc, scenario, gate, &Unlimited)?;
     // Proof: the machine's state is the replay of its history.
     machine.entries();

@@ -1,0 +1,4 @@
+pub mod Accounts
+pub mod Beginnings
+pub mod Coming
+pub mod Reasons

@@ -1,0 +1,99 @@
+//! What holds of the outcomes of steps: each function is a law, and its contract is all of it.
+ghost use Rattle.std.specs.Prelude.{◌≡◌, ◌<◌, ◌≤◌, ℕ, List, [], length, true, false};
+ghost use Rattle.zy_isa.specs.declared.choice.Choice.{Choice as AChoice};
+ghost use Rattle.zy_isa.specs.declared.choice.Choice.TheVariants.{Start, Run};
+ghost use Rattle.zy_isa.specs.declared.node.Node.{Node};
+ghost use Rattle.zy_isa.specs.declared.rule.Rule.TheVariants.{Held};
+ghost use Rattle.zy_isa.specs.Scenario.{Scenario, IsScenario};
+ghost use Rattle.zy_model.specs.Locks.{is_locked};
+ghost use Rattle.zy_table.specs.declared.effect.Effect.TheVariants.{Commits};
+ghost use Rattle.zy_table.specs.declared.outcome.Outcome.TheVariants.{Started};
+ghost use Rattle.zy_table.specs.Client.{is_active, is_new};
+ghost use Rattle.zy_table.specs.Pages.{owns};
+ghost use Rattle.zy_table.specs.Play.{play, opening, step, side_of};
+ghost use Rattle.zy_table.specs.State.{State, facing};
+ghost use Rattle.zy_laws.specs.Journey.{is_gone};
+ghost use Rattle.zy_outcomes.specs.Accounts.{Accounts, IsNumbered, Says, txn_of};
+ghost use Rattle.zy_outcomes.specs.Beginnings.{Begins, MayStart};
+ghost use Rattle.zy_outcomes.specs.Coming.{IsAwaited, OnItsWay};
+ghost use Rattle.zy_outcomes.specs.Reasons.{HasReason, Next};
+
+/// A `begin` of a new transaction always acts: there is always a node for it, which is not idle and hands over no page.
+pub fn a_begin_acts()
+    ensures { (sc : Scenario) → IsScenario sc → (choices : List AChoice) (t : ℕ) → t < length sc.programs
+        → let s = play sc (opening sc) choices in is_new (txn_of s t).status ≡ true → Begins sc s t }
+{}
+
+/// A `start` acts exactly where a migration may start from a node.
+pub fn a_start_acts()
+    ensures { (sc : Scenario) (s : State) (n : Node)
+        → let x = step sc Start s in
+        (x.outcome ≡ Started → MayStart sc (side_of sc Start s) s) × (MayStart sc n s → x.outcome ≡ Started) }
+{}
+
+/// Where an outcome says that a choice has come to nothing, or that a transaction aborts or asks for a page, it has its
+/// reason; so none of these comes anywhere else.
+pub fn a_refusal_has_its_reason()
+    ensures { (sc : Scenario) (choice : AChoice) (s : State)
+        → let n = side_of sc choice s in HasReason sc n (facing n s) choice (step sc choice s).outcome }
+{}
+
+/// Under the rule `held` a locked page is at its node.
+pub fn locked_here()
+    ensures { (sc : Scenario) → IsScenario sc → sc.rule ≡ Held → (choices : List AChoice) (n : Node) (p : ℕ)
+        → let x = (facing n (play sc (opening sc) choices)).me in is_locked x.locks p ≡ true → owns x.pages p ≡ true }
+{}
+
+/// So under `held` no commit finds that a page has gone.
+pub fn no_commit_gone()
+    ensures { (sc : Scenario) → IsScenario sc → sc.rule ≡ Held → (choices : List AChoice) (n : Node) (t : ℕ)
+        → let s = play sc (opening sc) choices in
+        Next sc t (facing n s) Commits → is_gone (step sc (Run n t) s).outcome ≡ false }
+{}
+
+/// There are never more low keys than the scenario has pages.
+pub fn page_limit()
+    ensures { (sc : Scenario) → IsScenario sc → (choices : List AChoice) (n : Node)
+        → length (facing n (play sc (opening sc) choices)).me.lows ≤ sc.pages }
+{}
+
+/// A transaction did one instruction more where a run of it gives `did` or a commit, and none elsewhere; its registers
+/// change at `did` alone.
+pub fn done_counts()
+    ensures { (sc : Scenario) (choices : List AChoice) (choice : AChoice) (t : ℕ)
+        → let s = play sc (opening sc) choices in let x = step sc choice s in
+        Accounts choice x.outcome t (txn_of s t) (txn_of x.after t) }
+{}
+
+/// Where a step says that a message was sent, that message is put at the end of the acting node's outbound link, and
+/// else none is.
+pub fn sent_is_said()
+    ensures { (sc : Scenario) (choice : AChoice) (s : State)
+        → let n = side_of sc choice s in let x = step sc choice s in
+        Says x.sent (facing n s).outbox (facing n x.after).outbox }
+{}
+
+/// Only who is active has private rows.
+pub fn private_active()
+    ensures { (sc : Scenario) (choices : List AChoice) (t : ℕ)
+        → let x = txn_of (play sc (opening sc) choices) t in is_active x.status ≡ false → x.rows ≡ [] }
+{}
+
+/// The number of a commit is that of the commits there are with it.
+pub fn commit_number()
+    ensures { (sc : Scenario) (choice : AChoice) (s : State)
+        → let x = step sc choice s in IsNumbered x.outcome x.after.commits }
+{}
+
+/// Each page that a node asked for is on its way: its pull to the other node, or the page itself back. It is asked for
+/// once.
+pub fn on_its_way()
+    ensures { (sc : Scenario) → IsScenario sc → (choices : List AChoice) (n : Node)
+        → OnItsWay (facing n (play sc (opening sc) choices)) }
+{}
+
+/// A page that a transaction pulls or awaits is one that its node asked for; so, with `on_its_way`, it is on its way.
+pub fn what_is_awaited_was_asked_for()
+    ensures { (sc : Scenario) (choice : AChoice) (s : State)
+        → let x = step sc choice s in IsAwaited x.outcome (facing (side_of sc choice s) x.after).me }
+{}
