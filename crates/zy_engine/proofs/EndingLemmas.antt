@@ -1,5 +1,5 @@
 -- What went out of a scenario whose migration was to be ended.
-use Rattle.std.proofs.Common.{◌≡◌, ◌∙◌, ◌<◌, ◌+◌, ◌++◌, ℕ, List, [], Option, None, Result, Ok, Err, ap, arith, inr, length, refl, subst, take}
+use Rattle.std.proofs.Common.{◌≡◌, ◌∙◌, ◌<◌, ◌≤◌, ◌+◌, ◌++◌, ℕ, List, [], Option, None, Result, Ok, Err, ap, arith, inr, length, refl, subst, take}
 use Rattle.std.proofs.KnownBytes.{Appends-nil}
 use Rattle.zy_io.proofs.StreamLemmas.{WrotePrefix-none}
 use Rattle.zy_io.specs.declared.writing.TextFault.{TextFault}
@@ -49,7 +49,7 @@ wrote_way w h cs old new before after r ran way x =
 -- all of it went out
 pub ended_well : (w : Wording) (h : History) (cs : List Choice) (old new : Option (List ℕ)) (before after : ℕ) (u : Unit {0})
     → h ≡ history_of None h.scenario → cs ≡ way_out h.scenario h.state
-    → WroteSome (IsWorded w (reordered h.scenario (take (length h.entries) h.scenario.choices ++ cs))) old new before after {X = Unit {0}} (Ok u)
+    → WroteSome {X = Unit {0}} (IsWorded w (reordered h.scenario (take (length h.entries) h.scenario.choices ++ cs))) old new before after (Ok u)
     → WroteEnding w h.scenario old new before after (Ok Written)
 ended_well w h cs old new before after u ran way x =
     let y = wrote_way w h cs old new before after (Ok u) ran way x in
@@ -58,7 +58,7 @@ ended_well w h cs old new before after u ran way x =
 -- a call failed, or there was no memory
 pub ended_badly : (w : Wording) (h : History) (cs : List Choice) (old new : Option (List ℕ)) (before after : ℕ) (f : TextFault)
     → h ≡ history_of None h.scenario → cs ≡ way_out h.scenario h.state
-    → WroteSome (IsWorded w (reordered h.scenario (take (length h.entries) h.scenario.choices ++ cs))) old new before after {X = Unit {0}} (Err f)
+    → WroteSome {X = Unit {0}} (IsWorded w (reordered h.scenario (take (length h.entries) h.scenario.choices ++ cs))) old new before after (Err f)
     → WroteEnding w h.scenario old new before after (Err f)
 ended_badly w h cs old new before after f ran way x =
     let y = wrote_way w h cs old new before after (Err f) ran way x in

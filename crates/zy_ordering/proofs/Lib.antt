@@ -4,4 +4,3 @@ mod TakenLemmas
 mod BelowLemmas
 mod AnswerLemmas
 mod RunLemmas
-mod BehindLemmas

@@ -7,7 +7,7 @@ use Rattle.zy_machine.specs.Histories.{History}
 use Rattle.zy_engine.specs.Searching.{history_of, IsWorded, WroteSome}
 use Rattle.zy_threads.specs.Orders.{reordered}
 use Rattle.zy_ordering.specs.Runs.{extended}
-use Rattle.zy_ordering.proofs.BehindLemmas.{worded}
+use Rattle.zy_engine.proofs.EndingLemmas.{worded}
 use Rattle.zy_ordering.proofs.TakenLemmas.{ran_own, ran_few, ran_all}
 use Rattle.zy_ordering.proofs.behind.write_extended.Goals as goal
 
