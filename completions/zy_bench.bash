@@ -3,7 +3,7 @@
 _zy_bench() {
   local word=${COMP_WORDS[COMP_CWORD]} before=${COMP_WORDS[COMP_CWORD - 1]} options
   if [[ $COMP_CWORD -eq 1 ]]; then
-    mapfile -t COMPREPLY < <(compgen -W 'run asm dis check threads trace debug search find order help --help --version' -- "$word")
+    mapfile -t COMPREPLY < <(compgen -W 'run asm dis check threads trace debug search find end order help --help --version' -- "$word")
     return
   fi
   case ${COMP_WORDS[1]} in
@@ -12,8 +12,9 @@ _zy_bench() {
     debug) options='--every --ring --help' ;;
     search) options='--image --for --always --from --kill --without --states --threads --canon --help' ;;
     find) options='--image --for --always --help' ;;
+    end) options='--image --canon --help' ;;
     order) options='--json --gap --states --canon --furthest --help' ;;
-    help) options='run asm dis check threads trace debug search find order' ;;
+    help) options='run asm dis check threads trace debug search find end order' ;;
     *) options='--help' ;;
   esac
   if [[ $before == --for ]]; then

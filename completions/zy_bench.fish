@@ -1,11 +1,11 @@
 # Completion of zy_bench, zview, zdb, zplay and zsuite for fish.
-set -l commands run asm dis check threads trace debug search find order help
+set -l commands run asm dis check threads trace debug search find end order help
 
 complete -c zy_bench -f -n "not __fish_seen_subcommand_from $commands" -a "$commands"
 complete -c zy_bench -f -n '__fish_seen_subcommand_from help' -a "$commands"
 complete -c zy_bench -l help -s h -d 'Print help'
 complete -c zy_bench -l version -s V -d 'Print the version' -n "not __fish_seen_subcommand_from $commands"
-complete -c zy_bench -l image -d 'The input is an image' -n '__fish_seen_subcommand_from run threads trace search find'
+complete -c zy_bench -l image -d 'The input is an image' -n '__fish_seen_subcommand_from run threads trace search find end'
 complete -c zy_bench -l json -d 'Steps are objects of JSON' -n '__fish_seen_subcommand_from run trace order'
 complete -c zy_bench -l every -x -d 'Keep copies at multiples of N' -n '__fish_seen_subcommand_from debug'
 complete -c zy_bench -l ring -x -d 'Keep at most N copies' -n '__fish_seen_subcommand_from debug'
@@ -16,7 +16,7 @@ complete -c zy_bench -l from -x -d 'Take the first N choices as taken' -n '__fis
 complete -c zy_bench -l kill -d 'Transactions may be killed' -n '__fish_seen_subcommand_from search'
 complete -c zy_bench -l without -x -d 'Leave out choices of this kind' -n '__fish_seen_subcommand_from search' \
   -a 'start begin kill run take finish push'
-complete -c zy_bench -l canon -d 'Write canonical text' -n '__fish_seen_subcommand_from search order'
+complete -c zy_bench -l canon -d 'Write canonical text' -n '__fish_seen_subcommand_from search end order'
 complete -c zy_bench -l states -x -d 'Look at N states at most' -n '__fish_seen_subcommand_from search order'
 complete -c zy_bench -l gap -x -d 'At most N missing steps for each gap' -n '__fish_seen_subcommand_from order'
 complete -c zy_bench -l furthest -r -d 'Keep the furthest order' -n '__fish_seen_subcommand_from order'

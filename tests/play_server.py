@@ -15,7 +15,7 @@ import time
 from contextlib import contextmanager
 
 from case import EXAMPLES, PROGRAM, TOP, content
-from playing import (ANOMALY, DEADLOCK, GONE, HELD, MIGRATION, NOTED, SEARCH, SMALLEST, TEXT, VERDICTS, ZPLAY, Play, bare, first_choices, is_program,
+from playing import (ANOMALY, DEADLOCK, GONE, HELD, KILLED, MIGRATION, NOTED, SEARCH, SMALLEST, SPINNING, TEXT, VERDICTS, ZPLAY, Play, bare, first_choices, is_program,
                      loops, steps_of, zviewed, zy_bench)
 from processes import comes
 from waits import SCENARIOS
@@ -91,6 +91,11 @@ def questions(play):
         ('the nodes', play.ask('/nodes', NOTED) == {'A': {'lows': [0], 'asked': []}, 'B': {'lows': [], 'asked': []}}),
         ('the nodes of no scenario', 'fault' in play.ask('/nodes', NOTED[1:])),
         ('a migration', play.ask('/migrate', SMALLEST) == {'added': MIGRATION, 'words': ''}),
+        ('a second migration', play.ask('/migrate', SMALLEST.replace('end\n', '\n'.join(MIGRATION + ['end', '']))) == {
+            'added': [], 'words': 'no migration can begin here'}),
+        *(('a migration that does not end by itself: %r' % text, play.ask('/migrate', text) == {
+            'added': added, 'words': 'the migration does not end while they are active, so these are killed: ' + who}) for text, added, who in KILLED),
+        ('a migration without room', 'more than 4096' in play.ask('/migrate', SPINNING.replace('C start', 'C start\nA run spin x 4094'))['words']),
         ('a listing', play.ask('/save', NOTED, **{'as': 'listing'})['file'] == zy_bench(['run'], NOTED.encode()))) if not is_right]
 
 

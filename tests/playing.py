@@ -215,9 +215,16 @@ SEARCH = {'text': SMALLEST, 'position': 0, 'way': 'for', 'goal': 'stuck', 'kill'
 MIGRATION = ['C start', 'B take', 'A take', 'B take', 'A finish', 'A push', 'B take', 'B take', 'A take']
 
 ANOMALY = content(os.path.join(EXAMPLES, 'anomaly.zephyr')).decode()
-DEADLOCK = bare(content(os.path.join(EXAMPLES, 'deadlock.zephyr')).decode())
+WAITING = content(os.path.join(EXAMPLES, 'deadlock.zephyr')).decode()
+DEADLOCK = bare(WAITING)
 GONE = bare(content(os.path.join(EXAMPLES, 'gone.zephyr')).decode())
 HELD = bare(content(os.path.join(EXAMPLES, 'anomaly_under_held.zephyr')).decode())
+
+# Schedules that do not end by themselves: two transactions wait for each other, and a program goes round; with the choices that end a migration of
+# theirs, and who is killed by them.
+SPINNING = 'zephyr 1\ncap 4\npages 1\nrule held\ntxn spin\nbeq r0 r0 @0\ncommit\nC begin spin\nC start\nend\n'
+KILLED = [(WAITING, ['C start', 'C kill 0', 'C kill 1', 'B take', 'A take', 'B take', 'A finish'] + ['B take', 'A push'] * 2 + ['B take', 'A take'], 'up, down'),
+          (SPINNING, ['C kill 0', 'B take', 'A take', 'B take', 'A finish', 'B take', 'A push', 'B take', 'A take'], 'spin')]
 
 # Verdicts on the anomaly up to some positions, as docs/loose.md has it: whether it is serial, the order of the commits, the one that explains the rows,
 # and the rows here and one by one.

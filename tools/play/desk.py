@@ -14,7 +14,7 @@ from picture.page import CHUNK
 from picture.svg import svg
 from play.keeping import changes, kept, known
 from play.would import would
-from prompt.session import LIMIT, Session, choices_of
+from prompt.session import LIMIT, Fault, Session, choices_of
 from waiting import page_of, said, wait_at
 
 # What one call of the program may take: seconds of a processor, and bytes of memory.
@@ -120,16 +120,26 @@ def until(asked):
 
 def migrated(asked):
     """The choices that let a migration end, or begin one and let it end: rounds of choices, of which those that do nothing are left out. The
-    transactions at its source run too, since it has to wait for them."""
+    transactions at its source run too, since it has to wait for them; where it does not come to its end so, they are killed."""
     session = Session(asked['text'], quiet=True)
-    made = session.choices
-    more, is_ended = acting(session, made, ['C start'])
-    while more and not is_ended:
+    made, first = session.choices, ['C start'] if is_settled(session.run, session.last()) else []
+    more, is_ended = acting(session, made, first)
+    if more[:1] != first and first:
+        return {'added': [], 'words': 'no migration can begin here'}
+    while not is_ended and any(' run ' not in choice for choice in more):
         made = made + more
         more, is_ended = acting(session, made, [])
-    added = (made + more)[len(session.choices):]
-    words = 'the migration does not end so' if added else 'no migration can begin or go on here'
-    return {'added': added, 'words': '' if added and is_ended else words}
+    return {'added': (made + more)[len(session.choices):], 'words': ''} if is_ended else killing(session, first)
+
+
+def killing(session, first):
+    """Some choices, and those behind them that end a migration by killing who is active; and whom they kill."""
+    try:
+        added = choices_of(session.ended(session.choices + first))[len(session.choices):]
+    except Fault as fault:
+        return {'added': [], 'words': str(fault)}
+    killed = ', '.join(session.by_name(choice).split()[-1] for choice in added if ' kill ' in choice)
+    return {'added': added, 'words': 'the migration does not end while they are active, so these are killed: ' + killed if killed else ''}
 
 
 def acting(session, made, first):

@@ -32,7 +32,7 @@ class Fault(Exception):
 
 
 class Session:
-    """The text is kept in three parts: the head with its names, the choices, and what they were before each `do`."""
+    """The text is kept in three parts: the head with its names, the choices, and what they were before each `do` and `end`."""
 
     def __init__(self, text, quiet=False, path=None):
         part, _ = bench.cut(text)
@@ -201,14 +201,35 @@ class Session:
     def do(self, choice, times=1, until=None):
         """Makes a choice behind the position, some times or until something comes of it."""
         done = self.choices[:self.position]
-        aside = len(self.choices) - self.position
         run = self.one_more(done, choice)
         if until or times > 1:
             run = self.make(done + [choice] * (self.times_until(done, choice, until) if until else times))
+        return self.go_on(run)
+
+    def go_on(self, run, *words):
+        """Takes a run that goes on from the position in place of the one that is there; some words come before what is new."""
+        aside = len(self.choices) - self.position
         self.before.append((self.choices, self.run, self.position))
         choices = choices_of(run)
-        words = ['%d choices behind the position are set aside; undo brings them back' % aside] if aside else []
-        return words + self.put(choices, run, len(choices))
+        lost = ['%d choices behind the position are set aside; undo brings them back' % aside] if aside else []
+        return lost + list(words) + self.put(choices, run, len(choices))
+
+    def ended(self, done):
+        """The run with the choices behind some that end its migration; a fault where there is no room for them."""
+        try:
+            text, _ = bench.texts(['end'], self.text(done).encode(**bench.BYTES))
+        except bench.Refused as refused:
+            raise Fault(refused.line().split(': ', 1)[-1]) from None
+        return runs.read(text, quiet=True)
+
+    def end(self):
+        """Makes the choices behind the position that end the migration, and says which these are."""
+        run = self.ended(self.choices[:self.position])
+        added = [self.by_name(choice) for choice in choices_of(run)[self.position:]]
+        if not added:
+            raise Fault('no migration goes on, and no transaction is active')
+        more = len(added) - MOST
+        return self.go_on(run, 'it ends by %s' % ', '.join(added[:MOST]) + (' and %d more' % more if more > 0 else ''))
 
     def times_until(self, done, choice, until):
         """How often a choice is made until a step of it is enough; at most as often as a scenario has room for."""
@@ -221,7 +242,7 @@ class Session:
         return max(1, room)
 
     def undo(self):
-        """The choices and the position as they were before the last `do`."""
+        """The choices and the position as they were before the last `do` or `end`."""
         if not self.before:
             raise Fault('nothing was done')
         choices, run, position = self.before.pop()

@@ -17,7 +17,8 @@ looks     page P (p)          a page and its locks        txn T (t)           a 
           summary             the whole run in some lines
 schedule  do CHOICE [x N]     makes a choice after the position; those that were after it are set aside
           do CHOICE until wait    makes it until it waits, ends or changes nothing; until end: goes on where it asks for a page
-          undo                the choices as they were before the last do
+          end                 puts the choices after the position that end the migration: who is active is killed
+          undo                the choices as they were before the last do or end
           save FILE           writes the scenario with the choices up to the position
           help (h), quit (q)      quit asks first where choices are not saved
 A word may be shortened as long as only one command begins so. An empty line does the last move again."""
@@ -31,7 +32,7 @@ FORMS = {
     'links': 'links', 'where': 'where', 'do': 'do CHOICE [x N | until wait | until end], as: do A run 0 until wait', 'save': 'save FILE'}
 
 COMMANDS = ('step', 'back', 'goto', 'cont', 'rcont', 'find', 'break', 'watch', 'delete', 'stops', 'page', 'txn', 'node', 'links', 'where', 'list',
-            'state', 'explain', 'summary', 'do', 'undo', 'save', 'help', 'quit')
+            'state', 'explain', 'summary', 'do', 'end', 'undo', 'save', 'help', 'quit')
 
 SHORT = {'s': 'step', 'n': 'step', 'next': 'step', 'bs': 'back', 'g': 'goto', 'c': 'cont', 'continue': 'cont', 'rc': 'rcont', 'b': 'break',
          'w': 'watch', 'd': 'delete', 'p': 'page', 'print': 'page', 't': 'txn', 'l': 'list', 'f': 'find', 'h': 'help', 'q': 'quit',
@@ -62,5 +63,5 @@ def command_of(words):
 
 def complete(text, state):
     """The commands that begin so, one a call, as readline asks for them."""
-    words = COMMANDS + ('mode', 'abort', 'if', 'goal', 'until', 'wait', 'end')
+    words = COMMANDS + ('mode', 'abort', 'if', 'goal', 'until', 'wait')
     return ([word + ' ' for word in words if word.startswith(text)] + [None])[state]

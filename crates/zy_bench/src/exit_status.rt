@@ -12,5 +12,5 @@ pub const NOT_TABLE: u8 = 4;
 /// The exit status where no schedule, or no state of a run, shows what is looked for, and where the logs have no order.
 pub const NOWHERE: u8 = 4;
 
-/// The exit status where a search came to no end.
+/// The exit status where a search came to no end, and where a scenario has no room for the choices that end its migration.
 pub const SPENT: u8 = 6;

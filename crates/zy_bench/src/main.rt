@@ -8,6 +8,7 @@ mod again;
 mod answering;
 mod command_line;
 mod commands;
+mod ending;
 mod excerpt;
 mod exit_status;
 mod explained;
@@ -35,6 +36,7 @@ use clap::error::ErrorKind;
 use command_line::command;
 use command_line::request::{Checkpoints, Conversion, Request, Shown, Task, request_of};
 use commands::Commands;
+use ending::end;
 use excerpt::Differing;
 use exit_status::{COMMAND_LINE, DONE, NOT_TABLE};
 use explained::{explain, explain_again};
@@ -392,6 +394,7 @@ fn perform<
             answer(rt, asked, quest, given, input, output)
         }
         Task::Find(quest) => answer(rt, Asked::Positions, quest, given, input, output),
+        Task::End(format, wording) => end(rt, format, wording, given, input, output),
         Task::Order(quest) => {
             let asker = Asker { file, is_terminal };
             order(rt, quest, asker, given, input, output)

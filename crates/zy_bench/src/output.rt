@@ -15,7 +15,7 @@ const HELD: usize = 8192;
 pub type Output<W> = Buffered<PipeSink<W>>;
 
 /// An output over a writer, to which nothing was written yet.
-pub fn output_to<W>(alloc: Global, writer: W) -> Result<Output<W>, AllocError>
+pub fn output_to<W: Drop>(alloc: Global, writer: W) -> Result<Output<W>, AllocError>
     ensures { IfOk result (λ o. o.sink.1 ≡ 0) }
 {
     let held = Vec::with_capacity(alloc, HELD)?;

@@ -1,3 +1,4 @@
 mod MergeLemmas
 mod AgainLemmas
 mod SearchLemmas
+pub mod EndingLemmas

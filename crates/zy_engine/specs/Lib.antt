@@ -9,3 +9,4 @@ pub mod Debugs
 pub mod Searching
 pub mod Finding
 pub mod StepObjects
+pub mod Ending

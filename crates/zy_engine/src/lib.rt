@@ -3,6 +3,7 @@
 
 pub mod checking;
 pub mod debugging;
+pub mod ending;
 pub mod engine;
 pub mod faults;
 pub mod finding;
@@ -15,6 +16,7 @@ mod step_objects;
 pub mod threading;
 pub mod wording;
 
+pub use crate::ending::Ending;
 pub use crate::faults::BenchFault;
 pub use crate::format::Format;
 pub use crate::output::{RunFormat, SourceFormat};

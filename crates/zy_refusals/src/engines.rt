@@ -7,6 +7,7 @@ use crate::texts::{Prefix, listing, room};
 use std::alloc::Global;
 use zy_engine::checking::check_bytes;
 use zy_engine::debugging::debug_bytes;
+use zy_engine::ending::end_bytes;
 use zy_engine::engine::{convert_bytes, run_bytes};
 use zy_engine::{Format, RunFormat, SourceFormat, Wording};
 use zy_io::{SliceSource, VecSink};
@@ -20,6 +21,7 @@ enum Engine {
     Convert(Format, SourceFormat),
     Check,
     Debug,
+    End,
     Order,
     OrderObjects,
 }
@@ -89,6 +91,10 @@ fn work_over(
         }
         Engine::Check => tested(ended(check_bytes(alloc, source, sink, input))),
         Engine::Debug => tested(debug_bytes(alloc, 2, 1, source, sink, input)),
+        Engine::End => {
+            let (format, wording) = (Format::Text, Wording::Own);
+            tested(end_bytes(alloc, format, wording, source, sink, input))
+        }
         Engine::Order => order(alloc, OPTIONS, source, sink, input),
         Engine::OrderObjects => order(alloc, OPTIONS_OF_OBJECTS, source, sink, input),
     }
@@ -170,6 +176,7 @@ pub fn sweep_named(name: &str, alloc: Global, input: &[u8]) -> Option<Result<Fin
         "dis_bytes" => Some(sweep_image(alloc, DIS, input)),
         "check_bytes" => Some(sweep_listing(alloc, input)),
         "debug_bytes" => Some(Ok(sweep_engine(alloc, Engine::Debug, input))),
+        "end_bytes" => Some(Ok(sweep_engine(alloc, Engine::End, input))),
         "order_bytes" => Some(Ok(sweep_engine(alloc, Engine::Order, input))),
         "order_objects_bytes" => Some(Ok(sweep_engine(alloc, Engine::OrderObjects, input))),
         _ => None,

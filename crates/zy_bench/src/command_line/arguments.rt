@@ -86,7 +86,7 @@ impl Argument {
             Argument::Canon => flag(
                 alloc,
                 "canon",
-                "Writes what is found as canonical text, without names and comments",
+                "Writes canonical text, without names and comments",
             ),
             Argument::Gap => gap(alloc),
             Argument::Furthest => valued(

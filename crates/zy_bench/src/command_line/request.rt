@@ -31,6 +31,8 @@ pub enum Task<'a> {
     Search(Quest<'a>),
     /// Find the positions of a run.
     Find(Quest<'a>),
+    /// End a migration, and write the scenario in a wording.
+    End(Format, Wording),
     /// Look for an order of logs.
     Order(LogQuest<'a>),
 }
@@ -107,6 +109,7 @@ fn task_of<'a>(command: CommandName, words: &ArgMatches<'a>) -> Task<'a> {
         CommandName::Debug => Task::Debug(checkpoints_of(words)),
         CommandName::Search => Task::Search(quest_of(words)),
         CommandName::Find => Task::Find(quest_of(words)),
+        CommandName::End => Task::End(format_of(words), wording_of(words)),
         CommandName::Order => Task::Order(order_of(words)),
     }
 }
@@ -171,7 +174,7 @@ fn logs_of(words: &ArgMatches<'_>) -> LogFormat {
     }
 }
 
-/// How a scenario is written that is found.
+/// How a scenario is written with choices behind its own.
 fn wording_of(words: &ArgMatches<'_>) -> Wording {
     if words.get_flag("canon") {
         Wording::Canonical

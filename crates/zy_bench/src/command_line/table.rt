@@ -15,7 +15,7 @@ pub struct Described {
 }
 
 /// The commands, in the order of the help.
-pub const COMMANDS: [CommandName; 10] = [
+pub const COMMANDS: [CommandName; 11] = [
     CommandName::Run,
     CommandName::Trace,
     CommandName::Asm,
@@ -25,6 +25,7 @@ pub const COMMANDS: [CommandName; 10] = [
     CommandName::Debug,
     CommandName::Search,
     CommandName::Find,
+    CommandName::End,
     CommandName::Order,
 ];
 
@@ -41,6 +42,7 @@ impl Described {
             CommandName::Debug => DEBUG,
             CommandName::Search => SEARCH,
             CommandName::Find => FIND,
+            CommandName::End => END,
             CommandName::Order => ORDER,
         }
     }
@@ -248,6 +250,32 @@ const FIND: Described = Described {
         Argument::Image,
         Argument::For,
         Argument::Always,
+        Argument::File(FILE_HELP),
+    ],
+};
+
+/// `end`.
+const END: Described = Described {
+    name: CommandName::End,
+    about: "Ends the migration of a scenario: writes it with choices behind its own that do so",
+    below: concat!(
+        "Input:   a scenario text, or with --image an image, at most 4194304 bytes\n",
+        "Output:  the scenario; behind its choices are a kill of each active transaction, and then the steps\n",
+        "         by which the nodes end the migration. A text keeps its names and comments. A fault is one\n",
+        "         line on standard error\n",
+        "Status:  0 done, 1 the input is rejected, 2 the command line is wrong, 3 out of memory,\n",
+        "         5 the input or the output failed, 6 with those choices the scenario would have more\n",
+        "         than 4096\n",
+        "\n",
+        "No commit is lost by it. Where no migration goes on and no transaction is active, the scenario\n",
+        "goes out as it is: docs/migration.md\n",
+        "\n",
+        "Example:\n",
+        "  zy_bench end examples/deadlock.zephyr | zy_bench run"
+    ),
+    arguments: &[
+        Argument::Image,
+        Argument::Canon,
         Argument::File(FILE_HELP),
     ],
 };
