@@ -41,7 +41,10 @@ impl fmt::Display for RefusedObject<'_> {
     fn fmt<W: fmt::Write>(&self, f: &mut fmt::Formatter<W>) -> fmt::Result {
         let refusal = self.refusal;
         let origin = Origin::at(self.file, start_of(refusal.line));
-        let told = Excerpt::of(SourceLine::of(self.input, refusal.line).bytes.trim_ascii(), 0);
+        let told = Excerpt::of(
+            SourceLine::of(self.input, refusal.line).bytes.trim_ascii(),
+            0,
+        );
         write!(f, "{origin}: {refusal}: {told}")
     }
 }

@@ -273,11 +273,7 @@ const END: Described = Described {
         "Example:\n",
         "  zy_bench end examples/deadlock.zephyr | zy_bench run"
     ),
-    arguments: &[
-        Argument::Image,
-        Argument::Canon,
-        Argument::File(FILE_HELP),
-    ],
+    arguments: &[Argument::Image, Argument::Canon, Argument::File(FILE_HELP)],
 };
 
 /// `order`.
