@@ -1,25 +1,36 @@
--- Where one transaction alone is active, it waits for no lock, and no lock at the other node holds a page back.
-use Rattle.std.proofs.Common.{◌≡◌, ℕ, List, [], ◌∷◌, true, false, refl, sym, ap, ◌∙◌, subst, inl, inr}
-use Rattle.std.specs.Prelude.{◌==◌, ◌&&◌, not}
+-- What a run of an active transaction comes to; and where it alone is active, it waits for no lock, and no lock at the other node holds a page back.
+use Rattle.std.proofs.Common.{◌≡◌, ◌<◌, ℕ, zero, suc, List, [], ◌∷◌, length, true, false, refl, sym, ap, arith, ◌∙◌, subst, inl, inr}
+use Rattle.std.specs.Prelude.{◌==◌, ◌&&◌, Some, not, slice_get}
 use Rattle.std.proofs.lemmas.Bool.{and_parts, eq-eqb, false≢true, not-true, or_cases, or_left, or_right}
 use Rattle.zy_isa.specs.Scenario.{IsScenario, Scenario}
 use Rattle.zy_isa.specs.declared.choice.Choice.{Choice}
 use Rattle.zy_isa.specs.declared.choice.Choice.TheVariants.{Run, Take}
+use Rattle.zy_isa.specs.declared.instr.Instr.{Instr}
 use Rattle.zy_isa.specs.declared.node.Node.{Node}
 use Rattle.zy_model.specs.Locks.{clashes, conflict, holds, is_shared}
 use Rattle.zy_model.specs.declared.lock.Lock.{Lock}
 use Rattle.zy_model.specs.declared.lock.LockKind.{LockKind}
+use Rattle.zy_table.specs.Change.{txn_or}
 use Rattle.zy_table.specs.Client.{is_active}
 use Rattle.zy_table.specs.Holders.{HoldersActive}
-use Rattle.zy_table.specs.Play.{opening, play, step}
+use Rattle.zy_table.specs.Play.{move, opening, play, step}
+use Rattle.zy_table.specs.Run.{program_of}
 use Rattle.zy_table.specs.State.{State, Txn, facing}
 use Rattle.zy_table.specs.declared.outcome.Outcome.TheVariants.{Held, Waits}
+use Rattle.zy_laws.proofs.counts.SafeCounts.{safe}
 use Rattle.zy_laws.proofs.locks.Reached.{holders_active}
 use Rattle.zy_laws.proofs.walk.Txns.{at_side}
 use Rattle.zy_outcomes.proofs.LockedHere.{holder_of}
+use Rattle.zy_outcomes.proofs.Runs.{HasNext, run_tells}
 use Rattle.zy_outcomes.proofs.Steps.{step_reason}
-use Rattle.zy_outcomes.specs.Accounts.{txn_of}
+use Rattle.zy_outcomes.specs.Accounts.{is_of_run, txn_of}
 use Rattle.zy_outcomes.specs.Reasons.{HasReason, IsAlone}
+
+-- a list has an element at each index below its length
+slice_get_some : (xs : List Instr) (i : ℕ) → i < length xs → (x : Instr) × (slice_get xs i ≡ Some x)
+slice_get_some [] i h = absurd (omega arith)
+slice_get_some (x ∷ xs) zero h = (x, refl)
+slice_get_some (x ∷ xs) (suc i) h = slice_get_some xs i (omega arith)
 
 -- a lock in the way is held by another
 clash_holder : (xs : List Lock) (p t : ℕ) (kind : LockKind) → conflict xs p t kind ≡ true → (u : ℕ) × (holds xs p u ≡ true) × ((u == t) ≡ false)
@@ -65,3 +76,24 @@ alone_waits_for_no_lock sc ok cs t p n alone =
     let s = play sc (opening sc) cs in
     let holders = holders_active sc ok cs in
     (waits_for_none sc s t p n holders alone, held_at_its_node sc s t p n holders alone)
+
+-- who is active is a transaction of the state
+active_within : (xs : List Txn) (t : ℕ) → is_active (txn_or (slice_get xs t)).status ≡ true → t < length xs
+active_within [] t h = absurd (false≢true h)
+active_within (x ∷ xs) zero h = omega arith
+active_within (x ∷ xs) (suc t) h = let k = active_within xs t h in omega (arith, k)
+
+-- the law: a run of an active transaction at its node gets on, or waits for something
+pub a_run_gets_on_or_waits : (sc : Scenario) → IsScenario sc → (cs : List Choice) (t : ℕ) → let s = play sc (opening sc) cs in
+    is_active (txn_of s t).status ≡ true → is_of_run (step sc (Run (txn_of s t).node t) s).outcome ≡ true
+unfolding step move
+a_run_gets_on_or_waits sc ok cs t active =
+    let s = play sc (opening sc) cs in
+    let n = (txn_of s t).node in
+    let v = facing n s in
+    let x = at_side n s t in
+    let safe_all = safe sc ok cs in
+    let within = subst (λ m. t < m) safe_all.txns (active_within s.txns t active) in
+    let pc = (safe_all.each t within).pc in
+    let next : HasNext sc t v = subst (λ (y : Txn). (i : Instr) × (slice_get (program_of sc t) y.pc ≡ Some i)) (sym x) (slice_get_some (program_of sc t) (txn_of s t).pc pc) in
+    (run_tells sc n t v).runs (ap (λ (y : Txn). is_active y.status) x ∙ active, ap (λ (y : Txn). y.node) x) next

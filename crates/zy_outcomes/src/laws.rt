@@ -13,7 +13,7 @@ ghost use Rattle.zy_table.specs.Pages.{owns};
 ghost use Rattle.zy_table.specs.Play.{play, opening, step, side_of};
 ghost use Rattle.zy_table.specs.State.{State, facing};
 ghost use Rattle.zy_laws.specs.Journey.{is_gone};
-ghost use Rattle.zy_outcomes.specs.Accounts.{Accounts, IsNumbered, Says, txn_of};
+ghost use Rattle.zy_outcomes.specs.Accounts.{Accounts, IsNumbered, Says, is_of_run, txn_of};
 ghost use Rattle.zy_outcomes.specs.Beginnings.{Begins, MayStart};
 ghost use Rattle.zy_outcomes.specs.Coming.{IsAwaited, OnItsWay};
 ghost use Rattle.zy_outcomes.specs.Reasons.{HasReason, IsAlone, Next};
@@ -98,8 +98,16 @@ pub fn what_is_awaited_was_asked_for()
         → let x = step sc choice s in IsAwaited x.outcome (facing (side_of sc choice s) x.after).me }
 {}
 
-/// A transaction that alone is active waits for no lock, and of the pages that it pulls none is held at the other node. So
-/// where it gets no further it waits for a message: for `dual`, or for a page that is on its way.
+/// A run of an active transaction, at its node, gets on (`did`, `split`, `committed` or an abort), or it waits: for a lock
+/// (`waits`), for a page (`pulls`, `awaits`), or for `dual` (`notyet`).
+pub fn a_run_gets_on_or_waits()
+    ensures { (sc : Scenario) → IsScenario sc → (choices : List AChoice) (t : ℕ)
+        → let s = play sc (opening sc) choices in
+        is_active (txn_of s t).status ≡ true → is_of_run (step sc (Run (txn_of s t).node t) s).outcome ≡ true }
+{}
+
+/// A transaction that alone is active waits for no lock, and no page that it pulls is held at the other node. So, with
+/// `a_run_gets_on_or_waits` and `on_its_way`, it gets on, or waits for `dual` or for a page that is on its way.
 pub fn alone_waits_for_no_lock()
     ensures { (sc : Scenario) → IsScenario sc → (choices : List AChoice) (t p : ℕ) (n : Node)
         → let s = play sc (opening sc) choices in IsAlone s t
