@@ -1,7 +1,7 @@
 -- The two signs of each number below 100.
 use Rattle.std.proofs.Common.{◌≡◌, ◌==◌, ◌&&◌, ◌+◌, ◌*◌, ◌/◌, ◌%◌, ◌<◌, ℕ, Bool, true, refl, subst, slice_index_or, arith, zero, suc, inl, inr}
 use Rattle.std.proofs.lemmas.Bool.{and_parts, cases_lt, eqb-true}
-use Rattle.zy_io.specs.declared.buffer.TheConstants.{PAIRS}
+use Rattle.zy_io.specs.declared.digits.TheConstants.{PAIRS}
 
 -- whether a number's two signs are in their places
 is_pair : ℕ → Bool

@@ -1,11 +1,10 @@
 //! Lines that are put together in memory that is used again.
-ghost use Rattle.std.specs.Prelude.{◌≡◌, ◌==◌, ◌<◌, ◌≤◌, ◌+◌, ◌/◌, ◌%◌, ◌++◌, ◌∷◌, [], if◌then◌else◌, is_ok, length};
+ghost use Rattle.std.specs.Prelude.{◌≡◌, ◌==◌, ◌≤◌, ◌+◌, ◌++◌, ◌∷◌, [], if◌then◌else◌, is_ok, length};
 ghost use Rattle.std.specs.Prelude.{vec_capacity, vec_len};
-ghost use Rattle.std.specs.Fmt.{decimal};
 
-use crate::pieces::room;
+use crate::appending::with_all;
+use crate::piece::Piece;
 use core::mem::replace_with;
-use itoa::Buffer;
 use std::alloc::{AllocError, Global};
 use std::marker::Model;
 
@@ -89,107 +88,35 @@ impl LineBuffer {
         Ok(())
     }
 
-    /// Puts a number behind the others, in decimal digits: one of up to six digits, which is what most lines have, two
-    /// at a time.
+    /// Puts a piece behind the others.
     #[inline(always)]
-    pub fn push_number(&mut self, number: u64) -> Result<(), AllocError>
-        ensures bytes { self.new ≡ (if is_ok result then self.old ++ decimal number else self.old) }
+    pub fn push_piece<P: Piece>(&mut self, piece: P) -> Result<(), AllocError>
+        requires { P.most ≤ 160 }
+        ensures bytes { self.new ≡ (if is_ok result then self.old ++ P.text piece else self.old) }
     {
-        put_number(number, &mut self.bytes)
+        self.bytes.reserve(LONGEST)?;
+        replace_with(&mut self.bytes, piece, with_text);
+        Ok(())
     }
 }
 
-/// Puts a number behind other bytes. One of up to six digits, for which there is room, needs no call: it is laid into
-/// the line's own function.
+/// The most bytes that a piece has.
+const LONGEST: usize = 160;
+
+/// Puts a piece behind other bytes.
 #[inline(always)]
-fn put_number(number: u64, bytes: &mut Vec<u8>) -> Result<(), AllocError>
-    ensures { bytes.new.items ≡ (if is_ok result then bytes.old.items ++ decimal number else bytes.old.items) }
+fn with_text<P: Piece>(bytes: Vec<u8>, piece: P) -> (Vec<u8>, ())
+    requires { vec_len bytes + P.most ≤ vec_capacity bytes }
+    ensures { result.0.items ≡ bytes.items ++ P.text piece }
 {
-    if number >= 1000000 || room(bytes) < 6 {
-        return put_long(number, bytes);
-    }
-    put_short(number, bytes);
-    Ok(())
+    (piece.put_behind(bytes), ())
 }
 
-/// Puts a number of any length behind other bytes, with room or without.
-#[cold]
-#[inline(never)]
-fn put_long(number: u64, bytes: &mut Vec<u8>) -> Result<(), AllocError>
-    ensures { bytes.new.items ≡ (if is_ok result then bytes.old.items ++ decimal number else bytes.old.items) }
-{
-    bytes.extend_from_slice(Buffer::new().format(number).as_bytes())
-}
-
-/// Puts bytes behind others, where there is room for them. The others come by value, so that where they lie need not
-/// be read again after each byte.
+/// Puts bytes behind others.
 #[inline(always)]
-fn with_bytes(mut bytes: Vec<u8>, others: &[u8]) -> (Vec<u8>, ())
+fn with_bytes(bytes: Vec<u8>, others: &[u8]) -> (Vec<u8>, ())
     requires { vec_len bytes + length others.now ≤ vec_capacity bytes }
     ensures { result.0.items ≡ bytes.items ++ others.now }
 {
-    for byte in others {
-        bytes.push_reserved(*byte);
-    }
-    (bytes, ())
-}
-
-/// Puts a number of up to six digits behind other bytes, where there is room for it.
-#[inline(always)]
-fn put_short(number: u64, bytes: &mut Vec<u8>)
-    requires few { number < 1000000 }
-    requires room { vec_len bytes.old + 6 ≤ vec_capacity bytes.old }
-    ensures { bytes.new.items ≡ bytes.old.items ++ decimal number }
-{
-    if number < 100 {
-        return put_front(number, bytes);
-    }
-    if number < 10000 {
-        put_front(number / 100, bytes);
-        return put_two(number % 100, bytes);
-    }
-    put_front(number / 10000, bytes);
-    put_two(number / 100 % 100, bytes);
-    put_two(number % 100, bytes);
-}
-
-/// Puts a number of one or two digits behind other bytes, where there is room for it.
-#[inline(always)]
-fn put_front(number: u64, bytes: &mut Vec<u8>)
-    requires few { number < 100 }
-    requires room { vec_len bytes.old + 2 ≤ vec_capacity bytes.old }
-    ensures items { bytes.new.items ≡ bytes.old.items ++ decimal number }
-    ensures len { vec_len bytes.new ≤ vec_len bytes.old + 2 }
-    ensures room { vec_capacity bytes.new ≡ vec_capacity bytes.old }
-{
-    if number < 10 {
-        return bytes.push_reserved(digit(number));
-    }
-    put_two(number, bytes);
-}
-
-/// The two signs of each number below 100, one number after the other.
-const PAIRS: [u8; 200] =
-    *b"00010203040506070809101112131415161718192021222324252627282930313233343536373839404142434445464748495051525354555657585960616263646566676869707172737475767778798081828384858687888990919293949596979899";
-
-/// Puts two digits behind other bytes, where there is room for them.
-#[inline(always)]
-fn put_two(number: u64, bytes: &mut Vec<u8>)
-    requires few { number < 100 }
-    requires room { vec_len bytes.old + 2 ≤ vec_capacity bytes.old }
-    ensures items { bytes.new.items ≡ bytes.old.items ++ (48 + number / 10) ∷ (48 + number % 10) ∷ [] }
-    ensures room { vec_capacity bytes.new ≡ vec_capacity bytes.old }
-{
-    let at = number as usize * 2;
-    bytes.push_reserved(PAIRS[at]);
-    bytes.push_reserved(PAIRS[at + 1]);
-}
-
-/// The sign of a digit.
-#[inline(always)]
-fn digit(number: u64) -> u8
-    requires { number < 10 }
-    ensures { result ≡ 48 + number }
-{
-    b'0' + number as u8
+    (with_all(bytes, others), ())
 }

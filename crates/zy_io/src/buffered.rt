@@ -4,7 +4,7 @@ ghost use Rattle.std.specs.Prelude.{is_err, length, take, drop, vec_len, vec_cap
 ghost use Rattle.std.specs.Io.KnownBytes.{Appends, Keeps, append_known};
 ghost use Rattle.zy_io.specs.Streams.{WritesAll};
 
-use crate::pieces::{append, append_line, room};
+use crate::appending::{append, append_line, room};
 use crate::stream::Sink;
 use crate::writing::WriteFault;
 use std::io;

@@ -2,11 +2,13 @@
 //! and lines that are written whole.
 #![tactic(auto)]
 
+mod appending;
 pub mod buffer;
 pub mod buffered;
+mod digits;
 pub mod line;
 pub mod memory;
-mod pieces;
+pub mod piece;
 pub mod reading;
 pub mod section;
 pub mod stream;
@@ -16,6 +18,7 @@ pub use crate::buffer::LineBuffer;
 pub use crate::buffered::Buffered;
 pub use crate::line::{Decimal, Joined, Line};
 pub use crate::memory::{SliceSource, VecSink};
+pub use crate::piece::Piece;
 pub use crate::reading::{MAX_INPUT, ReadFault};
 pub use crate::section::{AllLines, AllParts, Both, Lines, One, Parts, Section};
 pub use crate::stream::{CountingReader, CountingWriter, Sink, Source};

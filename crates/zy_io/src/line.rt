@@ -101,7 +101,7 @@ impl<U: Unsigned> Line for Decimal<U> {
 
     #[inline(always)]
     fn append(&self, line: &mut LineBuffer) -> Result<(), AllocError> {
-        line.push_number(self.0.widened())
+        line.push_piece(*self)
     }
 }
 

@@ -1,5 +1,4 @@
 pub mod Texts
-pub mod Outcomes
 pub mod Listing
 pub mod Locked
 pub mod Nodes

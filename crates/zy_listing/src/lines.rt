@@ -1,6 +1,5 @@
 //! The lines of a listing, a module for each kind.
 
-pub(crate) mod choice;
 pub mod final_state;
 pub mod link;
 pub mod locked;

@@ -5,3 +5,4 @@ pub mod Orderly
 pub mod Limits
 pub mod LockedHere
 pub mod Coming
+pub mod RunsAlone

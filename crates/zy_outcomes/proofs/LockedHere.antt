@@ -30,7 +30,7 @@ use Rattle.zy_outcomes.proofs.Steps.{step_reason}
 use Rattle.zy_outcomes.specs.Reasons.{HasReason, Needs, Next}
 
 -- a locked page is held by somebody
-holder_of : (xs : List Lock) (p : ℕ) → is_locked xs p ≡ true → (t : ℕ) × (holds xs p t ≡ true)
+pub holder_of : (xs : List Lock) (p : ℕ) → is_locked xs p ≡ true → (t : ℕ) × (holds xs p t ≡ true)
 holder_of [] p h = absurd (false≢true h)
 holder_of (x ∷ xs) p h = elim (or_cases (x.page == p) (is_locked xs p) h) [
   | inl here ↦ let it : ((x.page == p) && (x.txn == x.txn)) ≡ true = rw (here, eq-eqb x.txn x.txn refl) refl in (x.txn, or_left _ _ it)

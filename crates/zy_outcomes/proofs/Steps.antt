@@ -33,7 +33,7 @@ use Rattle.zy_table.specs.declared.outcome.Outcome.TheVariants as outcome
 use Rattle.zy_laws.proofs.owner.MovingPages.{owns-without}
 use Rattle.zy_laws.proofs.walk.Events.{same_node-true}
 use Rattle.zy_laws.proofs.walk.Txns.{at_either, at_other, at_same, at_self, at_side}
-use Rattle.zy_outcomes.proofs.Runs.{Fares, Goes, Stays, Tells, run_tells}
+use Rattle.zy_outcomes.proofs.Runs.{Fares, Goes, Stays, Tells, run_tells, same_node-same}
 use Rattle.zy_outcomes.specs.Accounts.{Accounts, IsNumbered, Says, counted, is_did, runs}
 use Rattle.zy_outcomes.specs.Coming.{IsAwaited}
 use Rattle.zy_outcomes.specs.Reasons.{HasReason, RunsAt}
@@ -44,13 +44,6 @@ use Rattle.zy_outcomes.specs.Reasons.{HasReason, RunsAt}
 held_rule : (r : Rule) → is_held r ≡ true → r ≡ rule.Held
 held_rule rule.Held h = refl
 held_rule rule.Loose h = absurd (false≢true h)
-
--- equal nodes pass the test
-same_node-same : (a b : Node) → a ≡ b → same_node a b ≡ true
-same_node-same A A e = refl
-same_node-same A B e = cc
-same_node-same B A e = cc
-same_node-same B B e = refl
 
 -- two tests that both hold
 and_both : (a b : Bool) → a ≡ true → b ≡ true → (a && b) ≡ true

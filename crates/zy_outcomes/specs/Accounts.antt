@@ -5,7 +5,7 @@ use Rattle.zy_isa.specs.declared.choice.Choice.TheVariants.{Run}
 use Rattle.zy_model.specs.declared.kind.Kind.{Kind}
 use Rattle.zy_model.specs.Messages.{Message, kind_of}
 use Rattle.zy_table.specs.declared.outcome.Outcome.{Outcome}
-use Rattle.zy_table.specs.declared.outcome.Outcome.TheVariants.{Did, Committed}
+use Rattle.zy_table.specs.declared.outcome.Outcome.TheVariants.{Aborted, Awaits, Committed, Did, NotYet, Pulls, Split, Waits}
 use Rattle.zy_table.specs.declared.entry.CommitRecord.{CommitRecord}
 use Rattle.zy_table.specs.Change.{txn_or}
 use Rattle.zy_table.specs.State.{State, Txn}
@@ -24,6 +24,19 @@ counted o = 0
 abbrev pub is_did : Outcome → Bool
 is_did Did = true
 is_did o = false
+
+-- what a run comes to where the transaction is active there: it gets on, to the end or not, or it waits for a lock, for a
+-- page, or for `dual`
+abbrev pub is_of_run : Outcome → Bool
+is_of_run Did = true
+is_of_run (Split page new_page boundary) = true
+is_of_run (Committed i) = true
+is_of_run (Aborted y) = true
+is_of_run (Waits p) = true
+is_of_run (Pulls p) = true
+is_of_run (Awaits p) = true
+is_of_run NotYet = true
+is_of_run o = false
 
 -- the choice runs transaction t
 abbrev pub runs : Choice → ℕ → Bool

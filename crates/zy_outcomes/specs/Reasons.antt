@@ -30,7 +30,8 @@ use Rattle.zy_table.specs.Numbers.{has}
 use Rattle.zy_table.specs.Pages.{owns}
 use Rattle.zy_table.specs.Ranges.{range_pages}
 use Rattle.zy_table.specs.Run.{has_room, is_there, lock_of, program_of}
-use Rattle.zy_table.specs.State.{NodeState, View}
+use Rattle.zy_table.specs.State.{NodeState, State, View}
+use Rattle.zy_outcomes.specs.Accounts.{txn_of}
 
 -- t runs at n
 abbrev pub RunsAt : View → ℕ → Node → Type 0
@@ -110,3 +111,7 @@ HasReason sc n v c (Held p) =
     (c ≡ Take n) × IsAsked v p × (sc.rule ≡ rule.Held) × (owns v.me.pages p ≡ true) × (is_locked v.me.locks p ≡ true)
 HasReason sc n v c (Stale p) = (c ≡ Take n) × IsAsked v p × (owns v.me.pages p ≡ false)
 HasReason sc n v c o = Unit {0}
+
+-- t alone is active
+abbrev pub IsAlone : State → ℕ → Type 0
+IsAlone s t = (u : ℕ) → is_active (txn_of s u).status ≡ true → u ≡ t

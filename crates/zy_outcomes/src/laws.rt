@@ -1,22 +1,22 @@
 //! What holds of the outcomes of steps: each function is a law, and its contract is all of it.
 ghost use Rattle.std.specs.Prelude.{◌≡◌, ◌<◌, ◌≤◌, ℕ, List, [], length, true, false};
 ghost use Rattle.zy_isa.specs.declared.choice.Choice.{Choice as AChoice};
-ghost use Rattle.zy_isa.specs.declared.choice.Choice.TheVariants.{Start, Run};
+ghost use Rattle.zy_isa.specs.declared.choice.Choice.TheVariants.{Start, Run, Take};
 ghost use Rattle.zy_isa.specs.declared.node.Node.{Node};
 ghost use Rattle.zy_isa.specs.declared.rule.Rule.TheVariants.{Held};
 ghost use Rattle.zy_isa.specs.Scenario.{Scenario, IsScenario};
 ghost use Rattle.zy_model.specs.Locks.{is_locked};
 ghost use Rattle.zy_table.specs.declared.effect.Effect.TheVariants.{Commits};
-ghost use Rattle.zy_table.specs.declared.outcome.Outcome.TheVariants.{Started};
+ghost use Rattle.zy_table.specs.declared.outcome.Outcome.TheVariants as outcome;
 ghost use Rattle.zy_table.specs.Client.{is_active, is_new};
 ghost use Rattle.zy_table.specs.Pages.{owns};
 ghost use Rattle.zy_table.specs.Play.{play, opening, step, side_of};
 ghost use Rattle.zy_table.specs.State.{State, facing};
 ghost use Rattle.zy_laws.specs.Journey.{is_gone};
-ghost use Rattle.zy_outcomes.specs.Accounts.{Accounts, IsNumbered, Says, txn_of};
+ghost use Rattle.zy_outcomes.specs.Accounts.{Accounts, IsNumbered, Says, is_of_run, txn_of};
 ghost use Rattle.zy_outcomes.specs.Beginnings.{Begins, MayStart};
 ghost use Rattle.zy_outcomes.specs.Coming.{IsAwaited, OnItsWay};
-ghost use Rattle.zy_outcomes.specs.Reasons.{HasReason, Next};
+ghost use Rattle.zy_outcomes.specs.Reasons.{HasReason, IsAlone, Next};
 
 /// A `begin` of a new transaction always acts: there is always a node for it, which is not idle and hands over no page.
 pub fn a_begin_acts()
@@ -28,7 +28,7 @@ pub fn a_begin_acts()
 pub fn a_start_acts()
     ensures { (sc : Scenario) (s : State) (n : Node)
         → let x = step sc Start s in
-        (x.outcome ≡ Started → MayStart sc (side_of sc Start s) s) × (MayStart sc n s → x.outcome ≡ Started) }
+        (x.outcome ≡ outcome.Started → MayStart sc (side_of sc Start s) s) × (MayStart sc n s → x.outcome ≡ outcome.Started) }
 {}
 
 /// Where an outcome says that a choice has come to nothing, or that a transaction aborts or asks for a page, it has its
@@ -96,4 +96,20 @@ pub fn on_its_way()
 pub fn what_is_awaited_was_asked_for()
     ensures { (sc : Scenario) (choice : AChoice) (s : State)
         → let x = step sc choice s in IsAwaited x.outcome (facing (side_of sc choice s) x.after).me }
+{}
+
+/// A run of an active transaction, at its node, gets on (`did`, `split`, `committed` or an abort), or it waits: for a lock
+/// (`waits`), for a page (`pulls`, `awaits`), or for `dual` (`notyet`).
+pub fn a_run_gets_on_or_waits()
+    ensures { (sc : Scenario) → IsScenario sc → (choices : List AChoice) (t : ℕ)
+        → let s = play sc (opening sc) choices in
+        is_active (txn_of s t).status ≡ true → is_of_run (step sc (Run (txn_of s t).node t) s).outcome ≡ true }
+{}
+
+/// A transaction that alone is active waits for no lock, and no page that it pulls is held at the other node. So, with
+/// `a_run_gets_on_or_waits` and `on_its_way`, it gets on, or waits for `dual` or for a page that is on its way.
+pub fn alone_waits_for_no_lock()
+    ensures { (sc : Scenario) → IsScenario sc → (choices : List AChoice) (t p : ℕ) (n : Node)
+        → let s = play sc (opening sc) choices in IsAlone s t
+        → ((step sc (Run n t) s).outcome ≡ outcome.Waits p → ⊥) × ((step sc (Take n) s).outcome ≡ outcome.Held p → (txn_of s t).node ≡ n) }
 {}

@@ -7,7 +7,7 @@ ghost use Rattle.zy_text.specs.Words.{spaced};
 ghost use Rattle.zy_text.specs.Canon.{node_text, rule_text, reg_text, row_text, instr_text, choice_text};
 
 use std::alloc::AllocError;
-use zy_io::{Decimal, Line, LineBuffer, Lines, joined};
+use zy_io::{Decimal, Line, LineBuffer, Lines, Piece, joined};
 use zy_isa::{
     Choice, Instr, JumpOperation, LoneOperation, Node, NumberOperation, Operation, PairOperation,
     Parts, Reg, Row, Rule, Version, Word,
@@ -58,17 +58,6 @@ impl CanonicalText for Version {
 
     fn append_text(&self, line: &mut LineBuffer) -> Result<(), AllocError> {
         self.digit().append(line)
-    }
-}
-
-impl CanonicalText for Node {
-    ghost text = { node_text };
-
-    fn append_text(&self, line: &mut LineBuffer) -> Result<(), AllocError> {
-        match self {
-            Node::A => b'A'.append(line),
-            Node::B => b'B'.append(line),
-        }
     }
 }
 
@@ -176,24 +165,55 @@ impl CanonicalText for Word {
     }
 }
 
-/// A listing has two for each step, so that its words are in few pieces.
+impl Piece for Canonical<Node> {
+    ghost text = { λ c. node_text c.0 };
+
+    ghost most = { 1 };
+
+    #[inline(always)]
+    fn put_behind(self, bytes: Vec<u8>) -> Vec<u8> {
+        match self.0 {
+            Node::A => b"A".put_behind(bytes),
+            Node::B => b"B".put_behind(bytes),
+        }
+    }
+}
+
+impl CanonicalText for Node {
+    ghost text = { node_text };
+
+    fn append_text(&self, line: &mut LineBuffer) -> Result<(), AllocError> {
+        line.push_piece(Canonical(*self))
+    }
+}
+
+/// A listing has two for each step.
+impl Piece for Canonical<Choice> {
+    ghost text = { λ c. choice_text c.0 };
+
+    ghost most = { 28 };
+
+    #[inline(always)]
+    fn put_behind(self, bytes: Vec<u8>) -> Vec<u8> {
+        match self.0 {
+            Choice::Start => b"C start".put_behind(bytes),
+            Choice::Begin(t) => joined!(b"C begin ", Decimal(t)).put_behind(bytes),
+            Choice::Kill(t) => joined!(b"C kill ", Decimal(t)).put_behind(bytes),
+            Choice::Run(node, t) => {
+                joined!(Canonical(node), b" run ", Decimal(t)).put_behind(bytes)
+            }
+            Choice::Take(node) => joined!(Canonical(node), b" take").put_behind(bytes),
+            Choice::Finish(node) => joined!(Canonical(node), b" finish").put_behind(bytes),
+            Choice::Push(node) => joined!(Canonical(node), b" push").put_behind(bytes),
+        }
+    }
+}
+
 impl CanonicalText for Choice {
     ghost text = { choice_text };
 
     #[inline(always)]
     fn append_text(&self, line: &mut LineBuffer) -> Result<(), AllocError> {
-        match self {
-            Choice::Start => "C start".append(line),
-            Choice::Begin(t) => joined!("C begin ", Decimal(*t)).append(line),
-            Choice::Kill(t) => joined!("C kill ", Decimal(*t)).append(line),
-            Choice::Run(Node::A, t) => joined!("A run ", Decimal(*t)).append(line),
-            Choice::Run(Node::B, t) => joined!("B run ", Decimal(*t)).append(line),
-            Choice::Take(Node::A) => "A take".append(line),
-            Choice::Take(Node::B) => "B take".append(line),
-            Choice::Finish(Node::A) => "A finish".append(line),
-            Choice::Finish(Node::B) => "B finish".append(line),
-            Choice::Push(Node::A) => "A push".append(line),
-            Choice::Push(Node::B) => "B push".append(line),
-        }
+        line.push_piece(Canonical(*self))
     }
 }

@@ -1,44 +1,28 @@
 //! The steps, each with what came of it.
-ghost use Rattle.std.specs.Prelude.{◌++◌, codes};
-ghost use Rattle.zy_listing.specs.Texts.{outcome_text, sent_text, step_text};
+ghost use Rattle.zy_listing.specs.Texts.{sent_text, step_text};
 ghost use Rattle.zy_listing.specs.Listing.{step_texts};
 
-use crate::lines::choice::SpacedChoice;
 use crate::lines::words::{KindText, OutcomeText};
 use std::alloc::AllocError;
-use zy_io::{Decimal, Line, LineBuffer, Lines, joined};
+use zy_io::{Decimal, Line, LineBuffer, Lines, Piece, joined};
 use zy_model::Kind;
-use zy_table::{Entry, Outcome};
+use zy_table::Entry;
 use zy_text::Canonical;
-
-/// What came of a step, behind the arrow. Most steps did an instruction, so that the words of those are one piece.
-#[derive(Clone, Copy)]
-struct CameText(Outcome);
-
-impl Line for CameText {
-    ghost text = { λ c. codes " -> " ++ outcome_text c.0 };
-
-    #[inline(always)]
-    fn append(&self, line: &mut LineBuffer) -> Result<(), AllocError> {
-        match self.0 {
-            Outcome::Did => " -> did".append(line),
-            outcome => joined!(" -> ", OutcomeText(outcome)).append(line),
-        }
-    }
-}
 
 /// The message that was sent, if one was.
 #[derive(Clone, Copy)]
 struct SentText(Option<Kind>);
 
-impl Line for SentText {
+impl Piece for SentText {
     ghost text = { λ s. sent_text s.0 };
 
+    ghost most = { 9 };
+
     #[inline(always)]
-    fn append(&self, line: &mut LineBuffer) -> Result<(), AllocError> {
+    fn put_behind(self, bytes: Vec<u8>) -> Vec<u8> {
         match self.0 {
-            None => Ok(()),
-            Some(kind) => joined!(" ! ", KindText(kind)).append(line),
+            None => bytes,
+            Some(kind) => joined!(b" ! ", KindText(kind)).put_behind(bytes),
         }
     }
 }
@@ -60,13 +44,14 @@ impl Line for StepLine<'_> {
             outcome,
             sent,
         } = *self.entry;
-        joined!(
+        line.push_piece(joined!(
             Decimal(self.number),
-            SpacedChoice(choice),
-            CameText(outcome),
+            b" ",
+            Canonical(choice),
+            b" -> ",
+            OutcomeText(outcome),
             SentText(sent),
-        )
-        .append(line)
+        ))
     }
 }
 

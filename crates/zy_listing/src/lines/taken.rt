@@ -3,10 +3,10 @@ ghost use Rattle.std.specs.Prelude.{map};
 ghost use Rattle.zy_text.specs.Canon.{choice_text};
 ghost use Rattle.zy_machine.specs.Histories.{choices_of};
 
-use crate::lines::choice::ChoiceText;
 use std::alloc::AllocError;
 use zy_io::{Line, LineBuffer, Lines};
 use zy_table::Entry;
+use zy_text::Canonical;
 
 /// The choices of these steps, in order.
 #[derive(Clone, Copy)]
@@ -21,6 +21,6 @@ impl Lines for Taken<'_> {
 
     #[inline(always)]
     fn append(&self, place: usize, line: &mut LineBuffer) -> Result<(), AllocError> {
-        ChoiceText(self.0[place].choice).append(line)
+        Canonical(self.0[place].choice).append(line)
     }
 }

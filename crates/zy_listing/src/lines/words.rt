@@ -1,11 +1,9 @@
 //! The words of the machine's plain types.
 ghost use Rattle.std.specs.Prelude.{◌≡◌};
-ghost use Rattle.zy_table.specs.declared.outcome.Outcome.TheVariants as outcome;
-ghost use Rattle.zy_listing.specs.Outcomes.{parts_text};
 ghost use Rattle.zy_listing.specs.Texts.{kind_text, link_word, mode_word, outcome_text, place_text, why_text};
 
 use std::alloc::AllocError;
-use zy_io::{Decimal, Line, LineBuffer, joined};
+use zy_io::{Decimal, Line, LineBuffer, Piece, joined};
 use zy_isa::Node;
 use zy_model::{Kind, NodeMode};
 use zy_table::{Outcome, Place, Why};
@@ -15,117 +13,31 @@ use zy_text::Canonical;
 #[derive(Clone, Copy)]
 pub(crate) struct WhyText(pub Why);
 
+impl Piece for WhyText {
+    ghost text = { λ w. why_text w.0 };
+
+    ghost most = { 27 };
+
+    #[inline(always)]
+    fn put_behind(self, bytes: Vec<u8>) -> Vec<u8> {
+        match self.0 {
+            Why::Own => b"own".put_behind(bytes),
+            Why::Killed => b"killed".put_behind(bytes),
+            Why::BadKey => b"badkey".put_behind(bytes),
+            Why::Missing => b"missing".put_behind(bytes),
+            Why::Duplicate => b"duplicate".put_behind(bytes),
+            Why::Frozen(page) => joined!(b"frozen ", Decimal(page)).put_behind(bytes),
+            Why::NoPage => b"nopage".put_behind(bytes),
+            Why::Gone(page) => joined!(b"gone ", Decimal(page)).put_behind(bytes),
+        }
+    }
+}
+
 impl Line for WhyText {
     ghost text = { λ w. why_text w.0 };
 
     fn append(&self, line: &mut LineBuffer) -> Result<(), AllocError> {
-        match self.0 {
-            Why::Own => "own".append(line),
-            Why::Killed => "killed".append(line),
-            Why::BadKey => "badkey".append(line),
-            Why::Missing => "missing".append(line),
-            Why::Duplicate => "duplicate".append(line),
-            Why::Frozen(page) => joined!("frozen ", Decimal(page)).append(line),
-            Why::NoPage => "nopage".append(line),
-            Why::Gone(page) => joined!("gone ", Decimal(page)).append(line),
-        }
-    }
-}
-
-/// Which page was cut, its new upper part, and where.
-#[derive(Clone, Copy)]
-struct SplitText {
-    page: u16,
-    new_page: u16,
-    boundary: u16,
-}
-
-impl Line for SplitText {
-    ghost text = { λ s. outcome_text (outcome.Split s.page s.new_page s.boundary) };
-
-    fn append(&self, line: &mut LineBuffer) -> Result<(), AllocError> {
-        joined!(
-            "split ",
-            Decimal(self.page),
-            b' ',
-            Decimal(self.new_page),
-            b' ',
-            Decimal(self.boundary),
-        )
-        .append(line)
-    }
-}
-
-/// What the text of an outcome is made of.
-#[derive(Clone, Copy)]
-enum OutcomeParts {
-    /// These words.
-    Words(&'static str),
-    /// Words and a node.
-    AtNode(&'static str, Node),
-    /// Words and a number.
-    Numbered(&'static str, u16),
-    /// Words and why a transaction was aborted.
-    Because(&'static str, Why),
-    /// The three numbers of a split.
-    Split(SplitText),
-}
-
-impl Line for OutcomeParts {
-    ghost text = { parts_text };
-
-    fn append(&self, line: &mut LineBuffer) -> Result<(), AllocError> {
-        match *self {
-            OutcomeParts::Words(words) => words.append(line),
-            OutcomeParts::AtNode(words, node) => joined!(words, Canonical(node)).append(line),
-            OutcomeParts::Numbered(words, number) => joined!(words, Decimal(number)).append(line),
-            OutcomeParts::Because(words, why) => joined!(words, WhyText(why)).append(line),
-            OutcomeParts::Split(split) => split.append(line),
-        }
-    }
-}
-
-/// What the text of this outcome is made of.
-fn outcome_parts(outcome: Outcome) -> OutcomeParts
-    ensures { parts_text result ≡ outcome_text outcome }
-{
-    match outcome {
-        Outcome::Started => OutcomeParts::Words("started"),
-        Outcome::BadMode => OutcomeParts::Words("badmode"),
-        Outcome::Began(node) => OutcomeParts::AtNode("began ", node),
-        Outcome::Idle => OutcomeParts::Words("idle"),
-        Outcome::Elsewhere => OutcomeParts::Words("elsewhere"),
-        Outcome::NotYet => OutcomeParts::Words("notyet"),
-        Outcome::Did => OutcomeParts::Words("did"),
-        Outcome::Split {
-            page,
-            new_page,
-            boundary,
-        } => OutcomeParts::Split(SplitText {
-            page,
-            new_page,
-            boundary,
-        }),
-        Outcome::Aborted(why) => OutcomeParts::Because("aborted ", why),
-        Outcome::Committed(place) => OutcomeParts::Numbered("committed ", u16::from(place)),
-        Outcome::Waits(page) => OutcomeParts::Numbered("waits ", page),
-        Outcome::Pulls(page) => OutcomeParts::Numbered("pulls ", page),
-        Outcome::Awaits(page) => OutcomeParts::Numbered("awaits ", page),
-        Outcome::NoMessage => OutcomeParts::Words("nomessage"),
-        Outcome::GotWire => OutcomeParts::Words("got wire"),
-        Outcome::GotReady => OutcomeParts::Words("got ready"),
-        Outcome::GotDual => OutcomeParts::Words("got dual"),
-        Outcome::Stale(page) => OutcomeParts::Numbered("stale ", page),
-        Outcome::Held(page) => OutcomeParts::Numbered("held ", page),
-        Outcome::GotPull(page) => OutcomeParts::Numbered("got pull ", page),
-        Outcome::GotPage(page) => OutcomeParts::Numbered("got page ", page),
-        Outcome::GotFinish => OutcomeParts::Words("got finish"),
-        Outcome::GotDone => OutcomeParts::Words("got done"),
-        Outcome::Stray => OutcomeParts::Words("stray"),
-        Outcome::Finishing => OutcomeParts::Words("finishing"),
-        Outcome::Active(t) => OutcomeParts::Numbered("active ", u16::from(t)),
-        Outcome::Pushed(page) => OutcomeParts::Numbered("pushed ", page),
-        Outcome::NoPush => OutcomeParts::Words("nopush"),
+        line.push_piece(*self)
     }
 }
 
@@ -133,11 +45,63 @@ fn outcome_parts(outcome: Outcome) -> OutcomeParts
 #[derive(Clone, Copy)]
 pub struct OutcomeText(pub Outcome);
 
+impl Piece for OutcomeText {
+    ghost text = { λ o. outcome_text o.0 };
+
+    ghost most = { 68 };
+
+    #[inline(always)]
+    fn put_behind(self, bytes: Vec<u8>) -> Vec<u8> {
+        match self.0 {
+            Outcome::Started => b"started".put_behind(bytes),
+            Outcome::BadMode => b"badmode".put_behind(bytes),
+            Outcome::Began(node) => joined!(b"began ", Canonical(node)).put_behind(bytes),
+            Outcome::Idle => b"idle".put_behind(bytes),
+            Outcome::Elsewhere => b"elsewhere".put_behind(bytes),
+            Outcome::NotYet => b"notyet".put_behind(bytes),
+            Outcome::Did => b"did".put_behind(bytes),
+            Outcome::Split {
+                page,
+                new_page,
+                boundary,
+            } => joined!(
+                b"split ",
+                Decimal(page),
+                b" ",
+                Decimal(new_page),
+                b" ",
+                Decimal(boundary),
+            )
+            .put_behind(bytes),
+            Outcome::Aborted(why) => joined!(b"aborted ", WhyText(why)).put_behind(bytes),
+            Outcome::Committed(place) => joined!(b"committed ", Decimal(place)).put_behind(bytes),
+            Outcome::Waits(page) => joined!(b"waits ", Decimal(page)).put_behind(bytes),
+            Outcome::Pulls(page) => joined!(b"pulls ", Decimal(page)).put_behind(bytes),
+            Outcome::Awaits(page) => joined!(b"awaits ", Decimal(page)).put_behind(bytes),
+            Outcome::NoMessage => b"nomessage".put_behind(bytes),
+            Outcome::GotWire => b"got wire".put_behind(bytes),
+            Outcome::GotReady => b"got ready".put_behind(bytes),
+            Outcome::GotDual => b"got dual".put_behind(bytes),
+            Outcome::Stale(page) => joined!(b"stale ", Decimal(page)).put_behind(bytes),
+            Outcome::Held(page) => joined!(b"held ", Decimal(page)).put_behind(bytes),
+            Outcome::GotPull(page) => joined!(b"got pull ", Decimal(page)).put_behind(bytes),
+            Outcome::GotPage(page) => joined!(b"got page ", Decimal(page)).put_behind(bytes),
+            Outcome::GotFinish => b"got finish".put_behind(bytes),
+            Outcome::GotDone => b"got done".put_behind(bytes),
+            Outcome::Stray => b"stray".put_behind(bytes),
+            Outcome::Finishing => b"finishing".put_behind(bytes),
+            Outcome::Active(t) => joined!(b"active ", Decimal(t)).put_behind(bytes),
+            Outcome::Pushed(page) => joined!(b"pushed ", Decimal(page)).put_behind(bytes),
+            Outcome::NoPush => b"nopush".put_behind(bytes),
+        }
+    }
+}
+
 impl Line for OutcomeText {
     ghost text = { λ o. outcome_text o.0 };
 
     fn append(&self, line: &mut LineBuffer) -> Result<(), AllocError> {
-        outcome_parts(self.0).append(line)
+        line.push_piece(*self)
     }
 }
 
@@ -145,26 +109,30 @@ impl Line for OutcomeText {
 #[derive(Clone, Copy)]
 pub struct KindText(pub Kind);
 
+impl Piece for KindText {
+    ghost text = { λ k. kind_text k.0 };
+
+    ghost most = { 6 };
+
+    #[inline(always)]
+    fn put_behind(self, bytes: Vec<u8>) -> Vec<u8> {
+        match self.0 {
+            Kind::Wire => b"wire".put_behind(bytes),
+            Kind::Ready => b"ready".put_behind(bytes),
+            Kind::Dual => b"dual".put_behind(bytes),
+            Kind::Pull => b"pull".put_behind(bytes),
+            Kind::Page => b"page".put_behind(bytes),
+            Kind::Finish => b"finish".put_behind(bytes),
+            Kind::Done => b"done".put_behind(bytes),
+        }
+    }
+}
+
 impl Line for KindText {
     ghost text = { λ k. kind_text k.0 };
 
     fn append(&self, line: &mut LineBuffer) -> Result<(), AllocError> {
-        kind_word(self.0).append(line)
-    }
-}
-
-/// The word of a kind of message.
-fn kind_word(kind: Kind) -> &'static str
-    ensures { result.now ≡ kind_text kind }
-{
-    match kind {
-        Kind::Wire => "wire",
-        Kind::Ready => "ready",
-        Kind::Dual => "dual",
-        Kind::Pull => "pull",
-        Kind::Page => "page",
-        Kind::Finish => "finish",
-        Kind::Done => "done",
+        line.push_piece(*self)
     }
 }
 

@@ -1,7 +1,7 @@
 -- The two pieces are all of the bytes.
 use Rattle.std.proofs.Common.{◌++◌, ◌-◌, length, take, ap, ◌∙◌, arith, append_assoc}
 use Rattle.zy_io.proofs.PieceLemmas.{two_pieces}
-use Rattle.zy_io.proofs.pieces.with_line.Goals as goal
+use Rattle.zy_io.proofs.appending.with_line.Goals as goal
 
 pub returns-in-Some-Some : goal.returns-in-Some-Some
 returns-in-Some-Some c =

@@ -1,6 +1,7 @@
 //! Bytes put behind others, if there is room for them.
 ghost use Rattle.std.specs.Prelude.{◌≡◌, ◌≤◌, ◌+◌, ◌-◌, ◌++◌, length, take, vec_len, vec_capacity};
 
+use crate::piece::Piece;
 use core::mem::replace_with;
 
 /// How many more bytes there is room for.
@@ -20,6 +21,20 @@ pub(crate) fn append(bytes: &mut Vec<u8>, others: &[u8])
     let Ok(()) = bytes.extend_from_slice(others) else {
         unreachable!()
     };
+}
+
+/// Puts bytes behind others, one by one.
+#[inline(always)]
+pub(crate) fn with_all(bytes: Vec<u8>, others: &[u8]) -> Vec<u8>
+    requires { vec_len bytes + length others.now ≤ vec_capacity bytes }
+    ensures items { result.items ≡ bytes.items ++ others.now }
+    ensures room { vec_capacity result ≡ vec_capacity bytes }
+{
+    let mut all = bytes;
+    for byte in others {
+        all.push_reserved(*byte);
+    }
+    all
 }
 
 /// Puts bytes behind others, and calls no function for 8 to 32 of them, which most lines have.
@@ -65,22 +80,7 @@ fn with_two<const N: usize>(
     ensures { result.items ≡ bytes.items ++ take (count - N) first.now ++ last.now }
 {
     let len = bytes.len();
-    let mut front = with_piece(bytes, first);
+    let mut front = first.put_behind(bytes);
     front.truncate(len + (count - N));
-    with_piece(front, last)
-}
-
-/// Bytes, and a piece behind them.
-#[inline(always)]
-fn with_piece<const N: usize>(mut bytes: Vec<u8>, piece: &[u8; N]) -> Vec<u8>
-    requires { vec_len bytes + N ≤ vec_capacity bytes }
-    ensures items { result.items ≡ bytes.items ++ piece.now }
-    ensures len { vec_len result ≡ vec_len bytes + N }
-    ensures room { vec_capacity result ≡ vec_capacity bytes }
-{
-    let all = *piece;
-    for byte in &all {
-        bytes.push_reserved(*byte);
-    }
-    bytes
+    last.put_behind(front)
 }
