@@ -93,7 +93,7 @@ fn work_over(
         Engine::Debug => tested(debug_bytes(alloc, 2, 1, source, sink, input)),
         Engine::End => {
             let (format, wording) = (Format::Text, Wording::Own);
-            tested(end_bytes(alloc, format, wording, source, sink, input))
+            tested(ended(end_bytes(alloc, format, wording, source, sink, input)))
         }
         Engine::Order => order(alloc, OPTIONS, source, sink, input),
         Engine::OrderObjects => order(alloc, OPTIONS_OF_OBJECTS, source, sink, input),
