@@ -2,7 +2,7 @@
 ghost use Rattle.zy_listing.specs.Texts.{sent_text, step_text};
 ghost use Rattle.zy_listing.specs.Listing.{step_texts};
 
-use crate::lines::words::{KindText, OutcomeText};
+use crate::lines::words::{KindText, OutcomePiece};
 use std::alloc::AllocError;
 use zy_io::{Decimal, Line, LineBuffer, Lines, Piece, joined};
 use zy_model::Kind;
@@ -11,10 +11,10 @@ use zy_text::Canonical;
 
 /// The message that was sent, if one was.
 #[derive(Clone, Copy)]
-struct SentText(Option<Kind>);
+struct SentText<'a>(&'a Option<Kind>);
 
-impl Piece for SentText {
-    ghost text = { λ s. sent_text s.0 };
+impl Piece for SentText<'_> {
+    ghost text = { λ s. sent_text s.0.now };
 
     ghost most = { 9 };
 
@@ -22,7 +22,7 @@ impl Piece for SentText {
     fn put_behind(self, bytes: Vec<u8>) -> Vec<u8> {
         match self.0 {
             None => bytes,
-            Some(kind) => joined!(b" ! ", KindText(kind)).put_behind(bytes),
+            Some(kind) => joined!(b" ! ", KindText(*kind)).put_behind(bytes),
         }
     }
 }
@@ -39,18 +39,14 @@ impl Line for StepLine<'_> {
 
     #[inline(always)]
     fn append(&self, line: &mut LineBuffer) -> Result<(), AllocError> {
-        let Entry {
-            choice,
-            outcome,
-            sent,
-        } = *self.entry;
+        let entry = self.entry;
         line.push_piece(joined!(
             Decimal(self.number),
             b" ",
-            Canonical(choice),
+            Canonical(entry.choice),
             b" -> ",
-            OutcomeText(outcome),
-            SentText(sent),
+            OutcomePiece(&entry.outcome),
+            SentText(&entry.sent),
         ))
     }
 }

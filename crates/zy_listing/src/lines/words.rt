@@ -41,12 +41,12 @@ impl Line for WhyText {
     }
 }
 
-/// What came of a step.
+/// What came of a step, behind other bytes.
 #[derive(Clone, Copy)]
-pub struct OutcomeText(pub Outcome);
+pub(crate) struct OutcomePiece<'a>(pub &'a Outcome);
 
-impl Piece for OutcomeText {
-    ghost text = { λ o. outcome_text o.0 };
+impl Piece for OutcomePiece<'_> {
+    ghost text = { λ o. outcome_text o.0.now };
 
     ghost most = { 68 };
 
@@ -55,7 +55,7 @@ impl Piece for OutcomeText {
         match self.0 {
             Outcome::Started => b"started".put_behind(bytes),
             Outcome::BadMode => b"badmode".put_behind(bytes),
-            Outcome::Began(node) => joined!(b"began ", Canonical(node)).put_behind(bytes),
+            Outcome::Began(node) => joined!(b"began ", Canonical(*node)).put_behind(bytes),
             Outcome::Idle => b"idle".put_behind(bytes),
             Outcome::Elsewhere => b"elsewhere".put_behind(bytes),
             Outcome::NotYet => b"notyet".put_behind(bytes),
@@ -66,42 +66,46 @@ impl Piece for OutcomeText {
                 boundary,
             } => joined!(
                 b"split ",
-                Decimal(page),
+                Decimal(*page),
                 b" ",
-                Decimal(new_page),
+                Decimal(*new_page),
                 b" ",
-                Decimal(boundary),
+                Decimal(*boundary),
             )
             .put_behind(bytes),
-            Outcome::Aborted(why) => joined!(b"aborted ", WhyText(why)).put_behind(bytes),
-            Outcome::Committed(place) => joined!(b"committed ", Decimal(place)).put_behind(bytes),
-            Outcome::Waits(page) => joined!(b"waits ", Decimal(page)).put_behind(bytes),
-            Outcome::Pulls(page) => joined!(b"pulls ", Decimal(page)).put_behind(bytes),
-            Outcome::Awaits(page) => joined!(b"awaits ", Decimal(page)).put_behind(bytes),
+            Outcome::Aborted(why) => joined!(b"aborted ", WhyText(*why)).put_behind(bytes),
+            Outcome::Committed(place) => joined!(b"committed ", Decimal(*place)).put_behind(bytes),
+            Outcome::Waits(page) => joined!(b"waits ", Decimal(*page)).put_behind(bytes),
+            Outcome::Pulls(page) => joined!(b"pulls ", Decimal(*page)).put_behind(bytes),
+            Outcome::Awaits(page) => joined!(b"awaits ", Decimal(*page)).put_behind(bytes),
             Outcome::NoMessage => b"nomessage".put_behind(bytes),
             Outcome::GotWire => b"got wire".put_behind(bytes),
             Outcome::GotReady => b"got ready".put_behind(bytes),
             Outcome::GotDual => b"got dual".put_behind(bytes),
-            Outcome::Stale(page) => joined!(b"stale ", Decimal(page)).put_behind(bytes),
-            Outcome::Held(page) => joined!(b"held ", Decimal(page)).put_behind(bytes),
-            Outcome::GotPull(page) => joined!(b"got pull ", Decimal(page)).put_behind(bytes),
-            Outcome::GotPage(page) => joined!(b"got page ", Decimal(page)).put_behind(bytes),
+            Outcome::Stale(page) => joined!(b"stale ", Decimal(*page)).put_behind(bytes),
+            Outcome::Held(page) => joined!(b"held ", Decimal(*page)).put_behind(bytes),
+            Outcome::GotPull(page) => joined!(b"got pull ", Decimal(*page)).put_behind(bytes),
+            Outcome::GotPage(page) => joined!(b"got page ", Decimal(*page)).put_behind(bytes),
             Outcome::GotFinish => b"got finish".put_behind(bytes),
             Outcome::GotDone => b"got done".put_behind(bytes),
             Outcome::Stray => b"stray".put_behind(bytes),
             Outcome::Finishing => b"finishing".put_behind(bytes),
-            Outcome::Active(t) => joined!(b"active ", Decimal(t)).put_behind(bytes),
-            Outcome::Pushed(page) => joined!(b"pushed ", Decimal(page)).put_behind(bytes),
+            Outcome::Active(t) => joined!(b"active ", Decimal(*t)).put_behind(bytes),
+            Outcome::Pushed(page) => joined!(b"pushed ", Decimal(*page)).put_behind(bytes),
             Outcome::NoPush => b"nopush".put_behind(bytes),
         }
     }
 }
 
+/// What came of a step.
+#[derive(Clone, Copy)]
+pub struct OutcomeText(pub Outcome);
+
 impl Line for OutcomeText {
     ghost text = { λ o. outcome_text o.0 };
 
     fn append(&self, line: &mut LineBuffer) -> Result<(), AllocError> {
-        line.push_piece(*self)
+        line.push_piece(OutcomePiece(&self.0))
     }
 }
 
