@@ -4,14 +4,20 @@ use Rattle.zy_io.specs.Writing.{Wrote}
 use Rattle.zy_listing.proofs.RunLemmas.{listing-whole}
 use Rattle.zy_listing.proofs.run.write_run.Goals as goal
 
-pub returns-in-Ok-clause-wrote : goal.returns-in-Ok-clause-wrote
-returns-in-Ok-clause-wrote g c =
+pub returns-in-Ok-clause-run : goal.returns-in-Ok-clause-run
+returns-in-Ok-clause-run g c =
     let Told : List ℕ → Type 0 = λ text. Wrote (g.K.Sink.written c.args.sink.now) (g.K.Sink.written c.write_listing.new.sink)
     (g.K.Sink.failures c.args.sink.now) (g.K.Sink.failures c.write_listing.new.sink) {X = Unit {0}} (Ok c.in-Ok.field-0) text in
-    subst Told (listing-whole c.args.scenario c.in_ok-machine.machine c.in_ok-machine.ensures.run) c.in-Ok.ensures
+    record {
+      wrote = subst Told (listing-whole c.args.scenario c.in_ok-machine.machine c.in_ok-machine.ensures.run) c.in-Ok.ensures;
+      machine = c.in_ok-machine.ensures.run;
+    }
 
-pub returns-in-Err-clause-wrote : goal.returns-in-Err-clause-wrote
-returns-in-Err-clause-wrote g c =
+pub returns-in-Err-clause-run : goal.returns-in-Err-clause-run
+returns-in-Err-clause-run g c =
     let Told : List ℕ → Type 0 = λ text. Wrote (g.K.Sink.written c.args.sink.now) (g.K.Sink.written c.write_listing.new.sink)
     (g.K.Sink.failures c.args.sink.now) (g.K.Sink.failures c.write_listing.new.sink) {X = Unit {0}} (Err c.in-Err.fault) text in
-    subst Told (listing-whole c.args.scenario c.in_ok-machine.machine c.in_ok-machine.ensures.run) c.in-Err.ensures
+    record {
+      wrote = subst Told (listing-whole c.args.scenario c.in_ok-machine.machine c.in_ok-machine.ensures.run) c.in-Err.ensures;
+      machine = tt;
+    }
