@@ -1,5 +1,5 @@
 -- What a run of a scenario text does.
-use Rattle.std.specs.Prelude.{◌≡◌, ⊥, Unit, ℕ, List, Option, None, Some, Result}
+use Rattle.std.specs.Prelude.{◌≡◌, ℕ, List, Option, None, Some, Result}
 use Rattle.zy_io.specs.Inputs.{IsAccepted, OnInput}
 use Rattle.zy_io.specs.declared.reading.ReadFault.{ReadFault}
 use Rattle.zy_io.specs.declared.reading.ReadFault.TheVariants as reading
