@@ -7,19 +7,20 @@ use std::io::Write;
 use std::marker::Model;
 use zy_engine::BenchFault;
 use zy_io::{Buffered, CountingWriter, Sink};
+use zy_writer::Patient;
 
 /// How many bytes are kept back at most.
 const HELD: usize = 8192;
 
 /// What commands write to: it keeps bytes back, and passes on many at a time.
-pub type Output<W> = Buffered<PipeSink<W>>;
+pub type Output<W> = Buffered<PipeSink<Patient<W>>>;
 
 /// An output over a writer, to which nothing was written yet.
 pub fn output_to<W: Drop>(alloc: Global, writer: W) -> Result<Output<W>, AllocError>
     ensures { IfOk result (λ o. o.sink.1 ≡ 0) }
 {
     let held = Vec::with_capacity(alloc, HELD)?;
-    Ok(Buffered::new(PipeSink::new(writer), held))
+    Ok(Buffered::new(PipeSink::new(Patient::new(writer)), held))
 }
 
 /// A sink over a writer that notes whether a call has failed since nobody reads any more.

@@ -18,6 +18,7 @@ use std::io;
 use std::io::{Read, Write};
 use std::process::ExitCode;
 use zy_io::{Buffered, CountingReader, CountingWriter, Source};
+use zy_writer::Patient;
 
 /// How many bytes of a listing are kept back at most.
 const HELD: usize = 8192;
@@ -90,7 +91,7 @@ fn answer<R: Eprint + AllocGlobal, G: Read, W: Write>(
 /// Writes the listing of the scenario on standard input, or says why there is none, and gives the exit status.
 fn answer_input<R: Print + Eprint + Input + AllocGlobal>(rt: &R) -> u8 {
     let mut given = Noted::new(rt.reader());
-    let mut output = Noted::new(io::writer(rt));
+    let mut output = Noted::new(Patient::new(io::writer(rt)));
     answer(rt, &mut given, &mut output)
 }
 

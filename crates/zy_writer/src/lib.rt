@@ -1,0 +1,6 @@
+//! A writer that makes interrupted calls again.
+#![tactic(auto)]
+
+pub mod patient;
+
+pub use crate::patient::Patient;
