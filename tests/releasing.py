@@ -32,13 +32,9 @@ def write(path, text, mode=0o644):
 
 
 def needed():
-    """The crates that zy_bench uses, by way of others too, and itself."""
-    uses = {line.split()[0].rstrip(':'): set(line.partition(':')[2].split()) for line in lines_of(os.path.join(TOP, 'crates.txt'))}
-    found, todo = set(), {'zy_bench'}
-    while todo:
-        found |= todo
-        todo = set().union(*(uses[name] & uses.keys() for name in todo)) - found
-    return found
+    """The crates that count for zy_bench: all but those that are there for the tests, and the other program."""
+    crates = {line.split()[0].rstrip(':') for line in lines_of(os.path.join(TOP, 'crates.txt'))}
+    return crates - {'zy_tests', 'zy_refusals', 'zy_first'}
 
 
 def bare(folder, *without):
