@@ -6,8 +6,7 @@ use std::io;
 use std::io::Write;
 use std::marker::Model;
 use zy_engine::BenchFault;
-use zy_io::{Buffered, CountingWriter, Sink};
-use zy_writer::Patient;
+use zy_io::{Buffered, CountingWriter, Held, Patient, Sink};
 
 /// How many bytes are kept back at most.
 const HELD: usize = 8192;
@@ -19,7 +18,7 @@ pub type Output<W> = Buffered<PipeSink<Patient<W>>>;
 pub fn output_to<W: Drop>(alloc: Global, writer: W) -> Result<Output<W>, AllocError>
     ensures { IfOk result (λ o. o.sink.1 ≡ 0) }
 {
-    let held = Vec::with_capacity(alloc, HELD)?;
+    let held = Held::new(alloc, HELD)?;
     Ok(Buffered::new(PipeSink::new(Patient::new(writer)), held))
 }
 

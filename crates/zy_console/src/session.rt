@@ -6,7 +6,6 @@ ghost use Rattle.zy_console.specs.Console.{WroteSession};
 use crate::answer::answer;
 use std::alloc::Global;
 use zy_debug::Debugger;
-use zy_io::writing::write_all;
 use zy_io::{LineBuffer, Sink, TextFault};
 use zy_text::Words;
 use zy_text::line::take_line;
@@ -29,7 +28,7 @@ pub fn write_session<K: Sink>(
     while !rest.is_empty() {
         rest = take_line(&mut words, rest);
         answer(debugger, words.as_slice(), &mut line)?;
-        write_all(sink, line.as_bytes())?;
+        sink.put_all(line.as_bytes())?;
     }
     Ok(())
 }

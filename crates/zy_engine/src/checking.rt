@@ -10,7 +10,6 @@ use std::alloc::{AllocError, Global};
 use zy_check::Verdict;
 use zy_check::check::compare;
 use zy_io::reading::read_all;
-use zy_io::writing::write_all;
 use zy_io::{Line, LineBuffer, Sink, Source, TextFault};
 use zy_isa::Scenario;
 
@@ -31,7 +30,7 @@ fn tell<K: Sink>(alloc: Global, verdict: Verdict, sink: &mut K) -> Result<(), Te
         (K.failures sink.new) result (verdict_line verdict) }
 {
     let line = line_of(alloc, verdict)?;
-    write_all(sink, line.as_bytes())?;
+    sink.put_all(line.as_bytes())?;
     Ok(())
 }
 

@@ -8,7 +8,6 @@ use crate::step_objects::write_objects;
 use std::alloc::Global;
 use zy_disasm::text::write_text;
 use zy_image::save::save;
-use zy_io::writing::write_all;
 use zy_io::{Sink, TextFault};
 use zy_isa::Scenario;
 use zy_listing::run::write_run;
@@ -84,6 +83,6 @@ fn write_image<K: Sink>(alloc: Global, scenario: &Scenario, sink: &mut K) -> Res
         (K.failures sink.new) result }
 {
     let image = save(alloc, scenario)?;
-    write_all(sink, image.as_slice())?;
+    sink.put_all(image.as_slice())?;
     Ok(())
 }

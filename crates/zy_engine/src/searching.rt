@@ -16,7 +16,6 @@ use std::alloc::{AllocError, Global};
 use std::thread::Threads;
 use zy_asm::assembling::assemble_bytes;
 use zy_disasm::ScenarioHead;
-use zy_io::writing::write_all;
 use zy_io::{AllLines, LineBuffer, MAX_INPUT, One, Section, Sink, TextFault, sections};
 use zy_isa::{Choice, Scenario};
 use zy_machine::{Fault, Machine};
@@ -169,7 +168,7 @@ fn write_own<K: Sink>(
 {
     match own_text(alloc, text, scenario, kept, more)? {
         Some(found) => {
-            write_all(sink, found.as_bytes())?;
+            sink.put_all(found.as_bytes())?;
             Ok(())
         }
         None => write_canonical(alloc, scenario, kept, more, sink),

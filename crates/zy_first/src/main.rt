@@ -17,8 +17,7 @@ use std::alloc::Global;
 use std::io;
 use std::io::{Read, Write};
 use std::process::ExitCode;
-use zy_io::{Buffered, CountingReader, CountingWriter, Source};
-use zy_writer::Patient;
+use zy_io::{Buffered, CountingReader, CountingWriter, Held, Patient, Source};
 
 /// How many bytes of a listing are kept back at most.
 const HELD: usize = 8192;
@@ -31,7 +30,7 @@ fn list<G: Read, W: Write>(
     input: &mut Vec<u8>,
 ) -> Result<(), RunFault> {
     let mut source = CountingReader::new(given);
-    let held = Vec::with_capacity(alloc, HELD)?;
+    let held = Held::new(alloc, HELD)?;
     let mut sink = Buffered::new(CountingWriter::new(output), held);
     let listed = list_to(alloc, &mut source, &mut sink, input);
     // Of a listing that ends with a fault, what was written goes out, too.

@@ -1,10 +1,10 @@
 //! A sink that keeps bytes back, and passes them on many at a time.
-ghost use Rattle.std.specs.Prelude.{◌≡◌, ◌<◌, ◌≤◌, ◌+◌, ◌-◌, ◌++◌, [], OnOk, if◌then◌else◌};
-ghost use Rattle.std.specs.Prelude.{is_err, length, take, drop, vec_len, vec_capacity};
+ghost use Rattle.std.specs.Prelude.{◌≡◌, ◌<◌, ◌≤◌, ◌+◌, [], OnOk, if◌then◌else◌};
+ghost use Rattle.std.specs.Prelude.{is_err, length, take};
 ghost use Rattle.std.specs.Io.KnownBytes.{Appends, Keeps, append_known};
 ghost use Rattle.zy_io.specs.Streams.{WritesAll};
 
-use crate::appending::{append, append_line, room};
+use crate::held::Held;
 use crate::stream::Sink;
 use crate::writing::WriteFault;
 use std::io;
@@ -14,12 +14,12 @@ use std::io;
 #[derive(Drop)]
 pub struct Buffered<K> {
     sink: K,
-    held: Vec<u8>,
+    held: Held,
 }
 
 impl<K> Buffered<K> {
-    /// Keeps back these bytes, and never more than they have capacity for.
-    pub fn new(sink: K, held: Vec<u8>) -> Buffered<K>
+    /// Keeps back these bytes, and others where there is room for them.
+    pub fn new(sink: K, held: Held) -> Buffered<K>
         ensures { result ≡ record { sink = sink; held = held } }
     {
         Buffered { sink, held }
@@ -37,13 +37,13 @@ impl<K: Sink> Buffered<K> {
     /// Passes on what is kept back, up to the first call of the sink that fails or takes none.
     pub fn pass(&mut self) -> Result<(), WriteFault>
         requires { K.failures self.old.sink < u64.MAX }
-        ensures empty { OnOk result (self.new.held.items ≡ []) }
-        ensures bytes { Keeps (append_known (K.written self.old.sink) self.old.held.items)
-            (append_known (K.written self.new.sink) self.new.held.items) }
+        ensures empty { OnOk result (self.new.held ≡ []) }
+        ensures bytes { Keeps (append_known (K.written self.old.sink) self.old.held)
+            (append_known (K.written self.new.sink) self.new.held) }
         ensures failed { K.failures self.new.sink ≡ K.failures self.old.sink + (if is_err result then 1 else 0) }
     {
         let (given, outcome) = give(&mut self.sink, self.held.as_slice());
-        drop_front(&mut self.held, given);
+        self.held.drop_front(given);
         outcome
     }
 
@@ -52,13 +52,12 @@ impl<K: Sink> Buffered<K> {
     #[inline(never)]
     fn put_many(&mut self, bytes: &[u8]) -> Result<(), WriteFault>
         requires { K.failures self.old.sink < u64.MAX }
-        ensures { WritesAll (append_known (K.written self.old.sink) self.old.held.items)
-            (append_known (K.written self.new.sink) self.new.held.items)
+        ensures { WritesAll (append_known (K.written self.old.sink) self.old.held)
+            (append_known (K.written self.new.sink) self.new.held)
             (K.failures self.old.sink) (K.failures self.new.sink) result bytes.now }
     {
         self.pass()?;
-        if bytes.len() <= room(&self.held) {
-            append(&mut self.held, bytes);
+        if self.held.keep(bytes) {
             return Ok(());
         }
         self.sink.put_all(bytes)
@@ -67,13 +66,12 @@ impl<K: Sink> Buffered<K> {
 
 /// What is kept back counts as written.
 impl<K: Sink> Sink for Buffered<K> {
-    ghost written = { λ s. append_known (K.written s.sink) s.held.items };
+    ghost written = { λ s. append_known (K.written s.sink) s.held };
 
     ghost failures = { λ s. K.failures s.sink };
 
     fn put(&mut self, bytes: &[u8]) -> io::Result<usize> {
-        if bytes.len() <= room(&self.held) {
-            append(&mut self.held, bytes);
+        if bytes.is_empty() || self.held.keep(bytes) {
             return Ok(bytes.len());
         }
         match self.pass() {
@@ -84,8 +82,7 @@ impl<K: Sink> Sink for Buffered<K> {
 
     #[inline(always)]
     fn put_all(&mut self, bytes: &[u8]) -> Result<(), WriteFault> {
-        if bytes.len() <= room(&self.held) {
-            append_line(&mut self.held, bytes);
+        if self.held.keep(bytes) {
             return Ok(());
         }
         self.put_many(bytes)
@@ -109,16 +106,4 @@ fn give<K: Sink>(sink: &mut K, bytes: &[u8]) -> (usize, Result<(), WriteFault>)
         }
     }
     (given, Ok(()))
-}
-
-/// Drops the first bytes.
-fn drop_front(bytes: &mut Vec<u8>, count: usize)
-    requires { count ≤ vec_len bytes.old }
-    ensures items { bytes.new.items ≡ drop count bytes.old.items }
-    ensures len { vec_len bytes.new ≡ vec_len bytes.old - count }
-    ensures capacity { vec_capacity bytes.new ≡ vec_capacity bytes.old }
-{
-    let len = bytes.len();
-    bytes.as_mut_slice().copy_within(count..len, 0);
-    bytes.truncate(len - count);
 }

@@ -172,21 +172,6 @@ impl<W> CountingWriter<W> {
     }
 }
 
-impl<W: Write> CountingWriter<W> {
-    /// Passes on what the writer still keeps back; a call that fails is counted too.
-    pub fn flush(&mut self) -> io::Result<()>
-        requires { self.old.1 < u64.MAX }
-        ensures bytes { Keeps (W.contents self.old.0) (W.contents self.new.0) }
-        ensures failed { self.new.1 ≡ self.old.1 + (if is_err result then 1 else 0) }
-    {
-        let outcome = self.writer.flush();
-        if outcome.is_err() {
-            self.faults += 1;
-        }
-        outcome
-    }
-}
-
 impl<W: Write> Sink for CountingWriter<W> {
     ghost written = { λ s. W.contents s.0 };
 

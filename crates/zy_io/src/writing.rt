@@ -1,8 +1,6 @@
 //! Writes bytes whole.
-ghost use Rattle.std.specs.Prelude.{◌≡◌, ◌<◌};
-ghost use Rattle.zy_io.specs.Streams.{WritesAll};
+ghost use Rattle.std.specs.Prelude.{◌≡◌};
 
-use crate::stream::Sink;
 use std::alloc::AllocError;
 use thiserror::Error;
 
@@ -40,13 +38,4 @@ impl From<WriteFault> for TextFault {
     fn from(_e: WriteFault) -> TextFault {
         TextFault::Write
     }
-}
-
-/// Writes all of the bytes, or up to the first call that fails or takes none.
-pub fn write_all<K: Sink>(sink: &mut K, bytes: &[u8]) -> Result<(), WriteFault>
-    requires { K.failures sink.old < u64.MAX }
-    ensures { WritesAll (K.written sink.old) (K.written sink.new)
-        (K.failures sink.old) (K.failures sink.new) result bytes.now }
-{
-    sink.put_all(bytes)
 }

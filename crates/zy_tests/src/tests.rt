@@ -5,7 +5,6 @@ mod image;
 mod json;
 mod lines;
 mod modes;
-mod streams;
 mod threads;
 mod tree;
 mod word;

@@ -15,7 +15,6 @@ use crate::since::{Marks, Since, Texts, append_since};
 use crate::step::{Buffers, trace_step};
 use std::alloc::{AllocError, Global};
 use zy_disasm::ScenarioHead;
-use zy_io::writing::write_all;
 use zy_io::{AllLines, LineBuffer, One, Section, Sink, TextFault, sections};
 use zy_isa::Scenario;
 use zy_listing::serial::same;
@@ -55,7 +54,7 @@ impl Section for StateLines<'_> {
     fn write<K: Sink>(&self, sink: &mut K, line: &mut LineBuffer) -> Result<(), TextFault> {
         line.clear();
         append_state(self.alloc, self.machine, line)?;
-        write_all(sink, line.as_bytes())?;
+        sink.put_all(line.as_bytes())?;
         Ok(())
     }
 }
@@ -102,7 +101,7 @@ fn write_step<K: Sink>(
     ensures made { OnOk result (now.new ≡ with_next now.old) }
 {
     trace_step(form, before, now, buffers, line)?;
-    write_all(sink, line.as_bytes())?;
+    sink.put_all(line.as_bytes())?;
     Ok(())
 }
 

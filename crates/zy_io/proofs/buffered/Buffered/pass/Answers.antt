@@ -7,11 +7,11 @@ use Rattle.zy_io.proofs.buffered.Buffered.pass.Goals as goal
 pub returns-clause-empty : goal.returns-clause-empty
 returns-clause-empty g c =
     let n = c.give-given.result.0 in
-    none_left c.give-given.result.1 c.as_slice.result.now _ n (c.drop_front.ensures.items ∙ ap (drop n) (sym c.as_slice.ensures.value)) c.give-given.ensures.all
+    none_left c.give-given.result.1 c.as_slice.result.now _ n (c.drop_front.ensures ∙ ap (drop n) (sym c.as_slice.ensures.value)) c.give-given.ensures.all
 
 pub returns-clause-bytes : goal.returns-clause-bytes
 returns-clause-bytes g c =
     let n = c.give-given.result.0 in
     let held = c.as_slice.result.now in
-    let rest = c.drop_front.ensures.items ∙ ap (drop n) (sym c.as_slice.ensures.value) in
+    let rest = c.drop_front.ensures ∙ ap (drop n) (sym c.as_slice.ensures.value) in
     append_known-moved _ _ _ _ _ c.give-given.ensures.bytes (sym c.as_slice.ensures.value ∙ sym (take-append-drop n held) ∙ ap (λ l. take n held ++ l) (sym rest))

@@ -14,15 +14,15 @@ returns-in_err-append_state g c =
     let p = err_from_is_err_and c.from_residual.result c.from_residual.ensures.1 in
     rw (p.1, p.2) (WrotePrefix-none (g.K.Sink.written c.args.sink.now) _, refl)
 
-pub returns-in_err-write_all : goal.returns-in_err-write_all
-returns-in_err-write_all g c =
+pub returns-in_err-put_all : goal.returns-in_err-put_all
+returns-in_err-put_all g c =
     let s = c.args.self.now.machine.now.state in
-    let p = err_from_is_err_and c.from_residual-in_err-write_all.result c.from_residual-in_err-write_all.ensures.1 in
+    let p = err_from_is_err_and c.from_residual-in_err-put_all.result c.from_residual-in_err-put_all.ensures.1 in
     let text : c.as_bytes.result.now ≡ flat_map line_of (map inset (state_lines s)) =
     c.as_bytes.ensures.value ∙ (c.in_ok-append_state.ensures ∙ ap (λ l. l ++ flat_map line_of (map inset (state_lines s))) c.clear.ensures) in
     rw (p.1, p.2) (
-      subst (WrotePrefix (g.K.Sink.written c.args.sink.now) (g.K.Sink.written c.write_all.new.sink)) text c.in_err-write_all.ensures.0,
-      c.in_err-write_all.ensures.1,
+      subst (WrotePrefix (g.K.Sink.written c.args.sink.now) (g.K.Sink.written c.put_all.new.sink)) text c.in_err-put_all.ensures.0,
+      c.in_err-put_all.ensures.1,
     )
 
 pub returns : goal.returns
@@ -30,4 +30,4 @@ returns g c =
     let s = c.args.self.now.machine.now.state in
     let text : c.as_bytes.result.now ≡ flat_map line_of (map inset (state_lines s)) =
     c.as_bytes.ensures.value ∙ (c.in_ok-append_state.ensures ∙ ap (λ l. l ++ flat_map line_of (map inset (state_lines s))) c.clear.ensures) in
-    (subst (Appends (g.K.Sink.written c.args.sink.now) (g.K.Sink.written c.write_all.new.sink)) text c.in_ok-write_all.ensures.0, c.in_ok-write_all.ensures.1)
+    (subst (Appends (g.K.Sink.written c.args.sink.now) (g.K.Sink.written c.put_all.new.sink)) text c.in_ok-put_all.ensures.0, c.in_ok-put_all.ensures.1)

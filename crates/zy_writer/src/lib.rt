@@ -1,6 +1,0 @@
-//! A writer that makes interrupted calls again.
-#![tactic(auto)]
-
-pub mod patient;
-
-pub use crate::patient::Patient;
