@@ -95,11 +95,11 @@ leaves_less p v s own =
     let fewer = sends_cost v.me.mode s _ _ (without_less p v.me.pages own) in
     record { txns = refl; commits = refl; them = refl; source = (λ on. inl on); less = omega (arith, fewer, length-append {A = Message}) }
 
--- what a take of message m does: less is left; or nothing changes, since the mode does not know m, or the page that m asks for is locked
+-- what a take of message m does: less is left; or nothing changes, since the mode does not know m, or sends, and the page that m asks for is locked
 pub data Goes (v : View) (m : Message) (w : View) : Type 0 where
   Acts : Lowers v w → Goes v m w
   Strays : w ≡ v → mode_line m v ≡ Stray → Goes v m w
-  IsHeld : w ≡ v → (p : ℕ) → is_locked v.me.locks p ≡ true → Goes v m w
+  IsHeld : w ≡ v → (p : ℕ) → is_sending v.me.mode ≡ true → is_locked v.me.locks p ≡ true → Goes v m w
 
 -- what a node's take does
 module _ (v : View) where
@@ -253,7 +253,7 @@ module _ (v : View) where
       cond_both (not (owns v.me.pages p)) _ _ (λ (z : Move). Goes v (Pull p) z.after)
       (λ _. Acts (record { txns = refl; commits = refl; them = refl; source = (λ on. inl on); less = omega (arith, first) }))
       (λ own. cond_both (is_held sc.rule && is_locked v.me.locks p) _ _ (λ (z : Move). Goes v (Pull p) z.after)
-      (λ held. IsHeld refl p (and_parts _ _ held).1)
+      (λ held. IsHeld refl p sends (and_parts _ _ held).1)
       (λ _. let k = leaves_less p (rest v taken.after) sends (not-false _ own) in
       let less = k.less in Acts (record { txns = k.txns; commits = k.commits; them = k.them; source = k.source; less = omega (arith, first, less) })))
 
@@ -285,13 +285,14 @@ module _ (v : View) where
   unfolding take_step front_step
   take_goes sc m taken = subst (λ ms. Goes v m (front_step sc ms v).after) (sym taken.front) (message_goes sc m taken)
 
-  -- where the mode knows it and nobody has a lock, less is left
-  pub take_less : (sc : Scenario) (m : Message) (taken : Front m v) → (mode_line m v ≡ Stray → ⊥) → v.me.locks ≡ [] → Lowers v (take_step sc v).after
+  -- where the mode knows it, and nobody has a lock at a node that sends, less is left
+  pub take_less : (sc : Scenario) (m : Message) (taken : Front m v) → (mode_line m v ≡ Stray → ⊥) → (is_sending v.me.mode ≡ true → v.me.locks ≡ [])
+      → Lowers v (take_step sc v).after
   take_less sc m taken known free =
       elim (take_goes sc m taken) [
         | Acts k ↦ k
         | Strays e line ↦ absurd (known line)
-        | IsHeld e p held ↦ absurd (false≢true (sym (ap (λ xs. is_locked xs p) free) ∙ held))
+        | IsHeld e p sends held ↦ absurd (false≢true (sym (ap (λ xs. is_locked xs p) (free sends)) ∙ held))
       ]
 
 -- a step of a node leaves what it sees, or less to do
@@ -306,7 +307,7 @@ take_by sc v (m ∷ ms) e =
     elim (take_goes v sc m (record { after = ms; front = e })) [
       | Acts k ↦ inr k
       | Strays same line ↦ inl same
-      | IsHeld same p held ↦ inl same
+      | IsHeld same p sends held ↦ inl same
     ]
 
 -- a finish that acts leaves less to do

@@ -39,14 +39,14 @@ use Rattle.zy_laws.proofs.way_out.Lacking.{BothLack, Lacking, lacking_them, one_
 use Rattle.zy_laws.proofs.way_out.Less.{Lowered, cost, finishes_less, left, lowered, migration_step, pushes_less, take_less}
 
 -- what is known of a state that a schedule leads to
-record Known (s : State) : Type 0 where
-  inv : (n : Node) → Inv (facing n s)
-  holders : HoldersActive s
+pub record Known (s : State) : Type 0 where
+  pub inv : (n : Node) → Inv (facing n s)
+  pub holders : HoldersActive s
   lacks : BothLack s
   left_none : (n : Node) → (facing n s).me.mode ≡ Empty → (facing n s).them.mode ≡ Normal → NothingLeft n (facing n s)
 
 -- it is known of each
-known : (sc : Scenario) → IsScenario sc → (s : State) → From sc s → Known s
+pub known : (sc : Scenario) → IsScenario sc → (s : State) → From sc s → Known s
 known sc ok s f =
     let s0 = play sc (opening sc) f.choices in
     let at : Known s0 = record {
@@ -105,7 +105,7 @@ handing (Is Done_sent at) m o b = absurd (subst PullsAndDone b at.back)
 handing (Is g at) m o b = cc (at.source, m)
 
 -- a page that is not owned is not counted
-not_counted : (p : ℕ) (xs : List Leaf) → owns xs p ≡ false → times p xs ≡ 0
+pub not_counted : (p : ℕ) (xs : List Leaf) → owns xs p ≡ false → times p xs ≡ 0
 not_counted p xs off =
     elim (cases_lt 0 (times p xs)) [
       | inl some ↦ absurd (false≢true (sym off ∙ owns_from p xs (omega (arith, some))))
@@ -133,7 +133,7 @@ module _ (sc : Scenario) (n : Node) (s : State) (k : Known s) (idle : NoneActive
   take_lowers m ms e =
       let v = facing n s in
       lowered n s (take_step sc v).after
-      (take_less v sc m (record { after = ms; front = e }) (λ line. knows_front v m ms e line (k.inv n).roles) (free_locks n s k idle))
+      (take_less v sc m (record { after = ms; front = e }) (λ line. knows_front v m ms e line (k.inv n).roles) (λ _. free_locks n s k idle))
 
   -- a finish in SDual
   finish_lowers : (facing n s).me.mode ≡ SDual → Lowered s (step sc (Finish_at n) s).after
@@ -274,7 +274,7 @@ cost_most DDual n = omega arith
 cost_most DFinish n = omega arith
 
 -- so enough is enough
-left_enough : (s : State) → left (facing A s) ≤ enough s
+pub left_enough : (s : State) → left (facing A s) ≤ enough s
 left_enough s =
     let a = cost_most s.a.mode (length s.a.pages) in
     let b = cost_most s.b.mode (length s.b.pages) in
