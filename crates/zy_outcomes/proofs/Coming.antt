@@ -107,7 +107,7 @@ has_put_old k q (x ∷ xs) h =
     (λ _. elim (or_cases (x == q) (has xs q) h) [ inl e ↦ or_left _ _ e | inr e ↦ or_right _ _ (has_put_old k q xs e) ])
 
 -- a number stays where another is dropped
-has_kept : (k q : ℕ) (xs : List ℕ) → (k ≡ q → ⊥) → has xs q ≡ true → has (drop_number k xs) q ≡ true
+pub has_kept : (k q : ℕ) (xs : List ℕ) → (k ≡ q → ⊥) → has xs q ≡ true → has (drop_number k xs) q ≡ true
 has_kept k q [] far h = absurd (false≢true h)
 has_kept k q (x ∷ xs) far h =
     cond_both (x == k) (drop_number k xs) (x ∷ drop_number k xs) (λ ys. has ys q ≡ true)

@@ -91,7 +91,7 @@ none_from n t (x ∷ xs) idle =
     ap (λ b. if b && same_node x.node n then Some t else active_from n (t + 1) xs) (idle 0) ∙ none_from n (t + 1) xs (λ i. idle (suc i))
 
 -- the transactions are the same from either side
-txns_side : (n : Node) (s : State) → (facing n s).txns ≡ s.txns
+pub txns_side : (n : Node) (s : State) → (facing n s).txns ≡ s.txns
 txns_side A s = refl
 txns_side B s = refl
 

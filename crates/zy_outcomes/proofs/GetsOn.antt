@@ -1,0 +1,411 @@
+-- Why nobody has to wait for ever: each round in which a transaction does not get on leaves less to come for it.
+use Rattle.std.proofs.Common.{◌≡◌, ℕ, ◌+◌, ◌-◌, ◌<◌, ◌≤◌, List, [], ◌∷◌, length, true, false, refl, sym, ap, ◌∙◌, subst, inl, inr, arith, zero, suc}
+use Rattle.std.specs.Prelude.{◌⊎◌, ◌==◌, Bool, if◌then◌else◌, slice_get, slice_set}
+use Rattle.std.proofs.lemmas.Bool.{cases_Bool, cases_eq, cond_both, false≢true}
+use Rattle.zy_isa.specs.Scenario.{IsScenario, Scenario}
+use Rattle.zy_isa.specs.declared.choice.Choice.{Choice}
+use Rattle.zy_isa.specs.declared.choice.Choice.TheVariants.{Kill, Run}
+use Rattle.zy_isa.specs.declared.node.Node.{Node}
+use Rattle.zy_isa.specs.declared.node.Node.TheVariants.{A, B}
+use Rattle.zy_model.specs.Table.{is_waiting, may_pull, may_split}
+use Rattle.zy_model.specs.declared.mode.NodeMode.{NodeMode}
+use Rattle.zy_model.specs.declared.mode.NodeMode.TheVariants.{DInit}
+use Rattle.zy_table.specs.Change.{nobody, txn_at, txn_or}
+use Rattle.zy_table.specs.Client.{is_active}
+use Rattle.zy_table.specs.Database.{sent_leaves}
+use Rattle.zy_table.specs.Numbers.{has}
+use Rattle.zy_table.specs.Pages.{owns}
+use Rattle.zy_table.specs.Play.{move, opening, play, step}
+use Rattle.zy_table.specs.Run.{run_step}
+use Rattle.zy_table.specs.State.{Leaf, NodeState, State, Txn, View, facing, seen_from}
+use Rattle.zy_table.specs.declared.outcome.Outcome.{Outcome}
+use Rattle.zy_table.specs.declared.outcome.Outcome.TheVariants as outcome
+use Rattle.zy_table.specs.declared.outcome.Why.{Why}
+use Rattle.zy_table.specs.declared.outcome.Why.TheVariants as why
+use Rattle.zy_laws.specs.WayOut.{enough, kills}
+use Rattle.zy_laws.proofs.sources.RealTime.{play-append}
+use Rattle.zy_laws.proofs.walk.ModeLines.{pulls_in, splits_in_normal}
+use Rattle.zy_laws.proofs.walk.Txns.{at_back, at_other, at_self, at_side}
+use Rattle.zy_laws.proofs.way_out.Kills.{From, from_step, killed_from}
+use Rattle.zy_laws.proofs.way_out.NoDeadEnd.{known, left_enough, txns_side}
+use Rattle.zy_outcomes.proofs.Coming.{on_its_way}
+use Rattle.zy_outcomes.proofs.Limits.{page_limit}
+use Rattle.zy_outcomes.proofs.Runs.{Brings, Cuts, Fares, Goes, Stays, Waits, run_tells}
+use Rattle.zy_outcomes.proofs.RunsAlone.{a_run_gets_on_or_waits, waits_for_none}
+use Rattle.zy_outcomes.proofs.Steps.{face}
+use Rattle.zy_outcomes.proofs.Taken.{Taken, all_taken, links_from, may_wait, none_waits, takes_txns}
+use Rattle.zy_outcomes.specs.Accounts.{counted, is_of_run, txn_of}
+use Rattle.zy_outcomes.specs.Coming.{IsAwaited, OnItsWay, pulls}
+use Rattle.zy_outcomes.specs.GetsOn.{GetsOn, HasGotOn, kills_but, round, rounds, takes}
+use Rattle.zy_outcomes.specs.Reasons.{HasCause, HasReason, IsAlone}
+
+-- ---- what is to come
+
+-- one where this page is missing
+abbrev lacks : List Leaf → ℕ → ℕ
+lacks xs p = if owns xs p then 0 else 1
+
+-- how many of the first w pages are missing
+abbrev missing : List Leaf → ℕ → ℕ
+missing xs zero = 0
+missing xs (suc w) = lacks xs w + missing xs w
+
+-- how many rounds may bring nothing at a node: one before `dual`, one for each page that is missing, and one for each cut
+abbrev to_come : ℕ → NodeState → ℕ
+to_come pages x = (if is_waiting x.mode then 1 else 0) + missing x.pages (length x.lows) + (pages - length x.lows)
+
+-- a page is missing or not
+lacks_most : (xs : List Leaf) (p : ℕ) → lacks xs p ≤ 1
+lacks_most xs p = cond_both (owns xs p) 0 1 (λ z. z ≤ 1) (λ _. omega arith) (λ _. omega arith)
+
+-- one that is here is not
+lacks_none : (xs : List Leaf) (p : ℕ) → owns xs p ≡ true → lacks xs p ≡ 0
+lacks_none xs p own = ap (λ b. if b then 0 else 1) own
+
+-- one that is not here is
+lacks_one : (xs : List Leaf) (p : ℕ) → owns xs p ≡ false → lacks xs p ≡ 1
+lacks_one xs p off = ap (λ b. if b then 0 else 1) off
+
+-- where pages stay, none is missing that was not
+lacks_kept : (xs ys : List Leaf) (p : ℕ) → (owns xs p ≡ true → owns ys p ≡ true) → lacks ys p ≤ lacks xs p
+lacks_kept xs ys p kept = elim (cases_Bool (owns xs p)) [
+  | inl own ↦ let a = lacks_none ys p (kept own) in omega (arith, a)
+  | inr off ↦ let a = lacks_one xs p off in let b = lacks_most ys p in omega (arith, a, b)
+]
+
+-- no more are missing than there are
+missing_most : (xs : List Leaf) (w : ℕ) → missing xs w ≤ w
+missing_most xs zero = omega arith
+missing_most xs (suc w) = let a = lacks_most xs w in let b = missing_most xs w in omega (arith, a, b)
+
+-- where pages stay, no more are missing
+missing_kept : (xs ys : List Leaf) (w : ℕ) → ((p : ℕ) → owns xs p ≡ true → owns ys p ≡ true) → missing ys w ≤ missing xs w
+missing_kept xs ys zero kept = omega arith
+missing_kept xs ys (suc w) kept = let a = lacks_kept xs ys w (kept w) in let b = missing_kept xs ys w kept in omega (arith, a, b)
+
+-- and fewer, where one has come
+missing_less : (xs ys : List Leaf) (w p : ℕ) → p < w → owns xs p ≡ false → owns ys p ≡ true → ((q : ℕ) → owns xs q ≡ true → owns ys q ≡ true)
+    → missing ys w < missing xs w
+missing_less xs ys zero p below off own kept = absurd (omega (arith, below))
+missing_less xs ys (suc w) p below off own kept =
+    elim (cases_eq p w) [
+      | inl same ↦
+          let a = lacks_one xs w (subst (λ z. owns xs z ≡ false) same off) in
+          let b = lacks_none ys w (subst (λ z. owns ys z ≡ true) same own) in
+          let c = missing_kept xs ys w kept in
+          omega (arith, a, b, c)
+      | inr far ↦
+          let a = lacks_kept xs ys w (kept w) in
+          let b = missing_less xs ys w p (omega (arith, below, far)) off own kept in
+          omega (arith, a, b)
+    ]
+
+-- a node that does not wait for `dual`, by how many low keys it has
+settled : (pages w : ℕ) (x : NodeState) → is_waiting x.mode ≡ false → length x.lows ≡ w → to_come pages x ≡ missing x.pages w + (pages - w)
+settled pages w x off long =
+    let a : to_come pages x ≡ 0 + missing x.pages (length x.lows) + (pages - length x.lows) =
+    ap (λ b. (if b then 1 else 0) + missing x.pages (length x.lows) + (pages - length x.lows)) off in
+    let b = ap (λ n. missing x.pages n + (pages - n)) long in
+    omega (arith, a, b)
+
+-- any node has no less to come than its pages
+at_least : (pages : ℕ) (x : NodeState) → missing x.pages (length x.lows) + (pages - length x.lows) ≤ to_come pages x
+at_least pages x = omega arith
+
+-- a node has at most pages + 1 to come
+most : (pages : ℕ) (x : NodeState) → length x.lows ≤ pages → to_come pages x ≤ pages + 1
+most pages x few =
+    let a = missing_most x.pages (length x.lows) in
+    cond_both (is_waiting x.mode) 1 0 (λ z. z + missing x.pages (length x.lows) + (pages - length x.lows) ≤ pages + 1)
+    (λ _. omega (arith, a, few)) (λ _. omega (arith, a, few))
+
+-- ---- a run
+
+-- what a run of t at n brings, in the views of n: it gets on, or it waits, or it cuts a page
+data Comes (sc : Scenario) (t : ℕ) (v w : View) : Type 0 where
+  On : HasGotOn (txn_at v t) (txn_at w t) → Comes sc t v w
+  For_dual : is_waiting v.me.mode ≡ true → Waits v w → Comes sc t v w
+  For_page : (p : ℕ) → may_pull v.me.mode ≡ true → owns v.me.pages p ≡ false → has w.me.asked p ≡ true → Waits v w → Comes sc t v w
+  Cut : Cuts sc v w → Comes sc t v w
+
+-- a transaction that did an instruction more has got on
+did_more : (sc : Scenario) (t : ℕ) (o : Outcome) (v w : View) → Fares t o v w → counted o ≡ 1 → Comes sc t v w
+did_more sc t o v w (Stays same none) one = absurd (omega (arith, none, one))
+did_more sc t o v w (Goes y active set done regs) one =
+    let e = ap (λ (x : Txn). x.done) (at_self v w t y set active) in
+    On (inl (omega (arith, done, one, e)))
+
+-- a run aborts by no kill
+no_kill : (sc : Scenario) (n : Node) (v : View) (t u : ℕ) (y : Why) → HasCause sc n v (Run n t) u y → y ≡ why.Killed → ⊥
+no_kill sc n v t u y cause e = let k : Run n t ≡ Kill u = subst (HasCause sc n v (Run n t) u) e cause in cc k
+
+-- by the outcome
+comes : (sc : Scenario) (n : Node) (t : ℕ) (v w : View) (o : Outcome) → HasReason sc n v (Run n t) o → Fares t o v w → IsAwaited o w.me
+    → Brings sc t o v w → is_of_run o ≡ true → ((p : ℕ) → o ≡ outcome.Waits p → ⊥) → Comes sc t v w
+comes sc n t v w outcome.Did reason fares awaited brings h free = did_more sc t outcome.Did v w fares refl
+comes sc n t v w (outcome.Committed i) reason fares awaited brings h free = did_more sc t (outcome.Committed i) v w fares refl
+comes sc n t v w (outcome.Aborted y) reason fares awaited brings h free = On (inr (y, brings, no_kill sc n v t reason.0 y reason.2))
+comes sc n t v w (outcome.Split p q b) reason fares awaited brings h free = Cut brings
+comes sc n t v w (outcome.Pulls p) reason fares awaited brings h free = For_page p reason.4 reason.3 awaited brings
+comes sc n t v w (outcome.Awaits p) reason fares awaited brings h free = For_page p reason.4 reason.3 awaited brings
+comes sc n t v w outcome.NotYet reason fares awaited brings h free = For_dual (ap is_waiting reason.3) brings
+comes sc n t v w (outcome.Waits p) reason fares awaited brings h free = absurd (free p refl)
+comes sc n t v w o reason fares awaited brings h free = absurd (false≢true h)
+
+-- ---- a round
+
+-- what else is so where a round begins: the state is reached, and t alone is active
+record Lone (sc : Scenario) (t : ℕ) (s : State) : Type 0 where
+  from : From sc s
+  alone : IsAlone s t
+  active : is_active (txn_of s t).status ≡ true
+
+-- the same where no transaction has changed
+lone_on : (sc : Scenario) (t : ℕ) (s w : State) → w.txns ≡ s.txns → From sc w → Lone sc t s → Lone sc t w
+lone_on sc t s w same from x = record {
+  from = from;
+  alone = subst (λ xs. (u : ℕ) → is_active (txn_or (slice_get xs u)).status ≡ true → u ≡ t) (sym same) x.alone;
+  active = ap (λ xs. is_active (txn_or (slice_get xs t)).status) same ∙ x.active;
+}
+
+-- a law of each reached state
+of_reached : (sc : Scenario) (P : State → Type 0) → ((cs : List Choice) → P (play sc (opening sc) cs)) → (s : State) → From sc s → P s
+of_reached sc P law s f = subst P f.is (law f.choices)
+
+-- a run of t in such a state
+run_comes : (sc : Scenario) → IsScenario sc → (t : ℕ) (s : State) → Lone sc t s → let n = (txn_of s t).node in
+    Comes sc t (facing n s) (facing n (step sc (Run n t) s).after)
+unfolding step move
+run_comes sc ok t s x =
+    let n = (txn_of s t).node in
+    let v = facing n s in
+    let m = run_step sc n t v in
+    let tells = run_tells sc n t v in
+    let k = known sc ok s x.from in
+    let of_run = of_reached sc (λ z. is_active (txn_of z t).status ≡ true → is_of_run (step sc (Run (txn_of z t).node t) z).outcome ≡ true)
+    (λ cs. a_run_gets_on_or_waits sc ok cs t) s x.from x.active in
+    subst (Comes sc t v) (sym (face n m.after))
+    (comes sc n t v m.after m.outcome tells.reason tells.fares tells.awaited tells.brings of_run
+    (λ p e. waits_for_none sc s t p n k.holders x.alone e))
+
+-- a page that was asked for has come once all messages are taken
+has_come : (sc : Scenario) → IsScenario sc → (n : Node) (w z : State) (p : ℕ) → Taken sc n w z → has (facing n w).me.asked p ≡ true
+    → owns (facing n z).me.pages p ≡ true
+has_come sc ok n w z p taken asked =
+    elim (taken.gains.asked p asked) [
+      | inr own ↦ own
+      | inl still ↦
+          let way = of_reached sc (λ x. OnItsWay (facing n x)) (λ cs. on_its_way sc ok cs n) z taken.from in
+          let links = links_from n z taken.links in
+          elim (way.asked p still).coming [
+            | inl pull ↦ let none = ap (pulls p) links.1 in absurd (omega (arith, pull, none))
+            | inr page ↦ absurd (false≢true (ap (λ ms. owns (sent_leaves ms) p) (sym links.0) ∙ page))
+          ]
+    ]
+
+-- ---- the rounds
+
+-- where a transaction waits for `dual` it may have to wait
+waiting_may : (m : NodeMode) → is_waiting m ≡ true → may_wait m ≡ true
+waiting_may DInit h = refl
+waiting_may m h = absurd (false≢true h)
+
+-- so it may at a node that asks for pages
+pulling_may : (m : NodeMode) → may_pull m ≡ true → may_wait m ≡ true
+pulling_may m h = elim (pulls_in m h) [ inl e ↦ ap may_wait e | inr e ↦ ap may_wait e ]
+
+-- after these rounds t has got on
+abbrev OnIn : Scenario → ℕ → State → ℕ → Type 0
+OnIn sc t s n = HasGotOn (txn_of s t) (txn_of (play sc s (rounds sc t n s)) t)
+
+-- the state after a round
+abbrev after_round : Scenario → ℕ → State → State
+after_round sc t s = play sc s (round sc t s)
+
+-- the rounds from there on
+on_after : (sc : Scenario) (t : ℕ) (s : State) (k : ℕ) → let z = after_round sc t s in
+    HasGotOn (txn_of s t) (txn_of (play sc z (rounds sc t k z)) t) → OnIn sc t s (suc k)
+on_after sc t s k on =
+    let z = after_round sc t s in
+    subst (λ y. HasGotOn (txn_of s t) (txn_of y t)) (sym (play-append sc s (round sc t s) (rounds sc t k z))) on
+
+-- what is to come for t
+abbrev to_come_for : Scenario → ℕ → State → ℕ
+to_come_for sc t s = to_come sc.pages (facing (txn_of s t).node s).me
+
+-- in a round t gets on, or leaves less to come
+data Ahead (sc : Scenario) (t : ℕ) (s : State) : Type 0 where
+  Gets_on : OnIn sc t s 1 → Ahead sc t s
+  Nearer : Lone sc t (after_round sc t s) → txn_of (after_round sc t s) t ≡ txn_of s t
+      → to_come_for sc t (after_round sc t s) < to_come_for sc t s → Ahead sc t s
+
+module _ (sc : Scenario) (ok : IsScenario sc) (t : ℕ) (s : State) (x : Lone sc t s) where
+  -- the node of t, the state after its run, and the one after the round
+  abbrev n : Node
+  n = (txn_of s t).node
+
+  abbrev w : State
+  w = (step sc (Run n t) s).after
+
+  abbrev z : State
+  z = after_round sc t s
+
+  -- where t has got on with its run
+  got_on : HasGotOn (txn_at (facing n s) t) (txn_at (facing n w) t) → Ahead sc t s
+  got_on on =
+      let same : txn_of z t ≡ txn_at (facing n w) t = ap (λ xs. txn_or (slice_get xs t)) (takes_txns sc (enough w) w) ∙ sym (at_side n w t) in
+      Gets_on (on_after sc t s 0 (subst (λ a. HasGotOn a (txn_of z t)) (at_side n s t) (subst (HasGotOn (txn_at (facing n s) t)) (sym same) on)))
+
+  -- where no transaction has changed by then, all messages are taken
+  all_come : (facing n w).txns ≡ (facing n s).txns → may_wait (facing n w).me.mode ≡ true → Taken sc n w z
+  all_come same h =
+      let txns : w.txns ≡ s.txns = sym (txns_side n w) ∙ same ∙ txns_side n s in
+      let lone = lone_on sc t s w txns (from_step sc (Run n t) s x.from) x in
+      all_taken sc ok t n (enough w) w lone.from lone.alone (ap (λ xs. (txn_or (slice_get xs t)).node) txns) h (left_enough w)
+
+  -- and t is where it was
+  nearer : (facing n w).txns ≡ (facing n s).txns → Taken sc n w z → to_come sc.pages (facing n z).me < to_come sc.pages (facing n s).me → Ahead sc t s
+  nearer same taken less =
+      let txns : z.txns ≡ s.txns = taken.txns ∙ sym (txns_side n w) ∙ same ∙ txns_side n s in
+      let txn : txn_of z t ≡ txn_of s t = ap (λ xs. txn_or (slice_get xs t)) txns in
+      Nearer (lone_on sc t s z txns taken.from x) txn
+      (subst (λ m. to_come sc.pages (facing m z).me < to_come sc.pages (facing n s).me) (ap (λ (y : Txn). y.node) (sym txn)) less)
+
+  -- what is to come at the end of a round, by how many low keys there are
+  then_settled : (many : ℕ) → Taken sc n w z → length (facing n w).me.lows ≡ many
+      → to_come sc.pages (facing n z).me ≡ missing (facing n z).me.pages many + (sc.pages - many)
+  then_settled many taken long =
+      settled sc.pages many (facing n z).me (none_waits n z (known sc ok z taken.from) taken.links) (ap length taken.gains.lows ∙ long)
+
+  -- where t waits, the pages that were here are here still
+  still_here : Waits (facing n s) (facing n w) → Taken sc n w z → (p : ℕ) → owns (facing n s).me.pages p ≡ true → owns (facing n z).me.pages p ≡ true
+  still_here waits taken p own = taken.gains.kept p (subst (λ xs. owns xs p ≡ true) (sym waits.pages) own)
+
+  -- where it waits for `dual`
+  dual_nearer : is_waiting (facing n s).me.mode ≡ true → Waits (facing n s) (facing n w) → Ahead sc t s
+  dual_nearer waiting waits =
+      let me = (facing n s).me in
+      let many = length me.lows in
+      let taken = all_come waits.txns (ap may_wait waits.mode ∙ waiting_may me.mode waiting) in
+      let e = then_settled many taken (ap length waits.lows) in
+      let a = missing_kept me.pages (facing n z).me.pages many (still_here waits taken) in
+      let b : to_come sc.pages me ≡ 1 + missing me.pages many + (sc.pages - many) =
+      ap (λ b. (if b then 1 else 0) + missing me.pages many + (sc.pages - many)) waiting in
+      nearer waits.txns taken (omega (arith, e, a, b))
+
+  -- where it waits for a page
+  page_nearer : (p : ℕ) → may_pull (facing n s).me.mode ≡ true → owns (facing n s).me.pages p ≡ false → has (facing n w).me.asked p ≡ true
+      → Waits (facing n s) (facing n w) → Ahead sc t s
+  page_nearer p pulls_on gone asked waits =
+      let me = (facing n s).me in
+      let many = length me.lows in
+      let taken = all_come waits.txns (ap may_wait waits.mode ∙ pulling_may me.mode pulls_on) in
+      let e = then_settled many taken (ap length waits.lows) in
+      let way = of_reached sc (λ y. OnItsWay (facing n y)) (λ cs. on_its_way sc ok cs n) w (from_step sc (Run n t) s x.from) in
+      let below : p < many = subst (λ ls. p < length ls) waits.lows (way.asked p asked).known in
+      let a = missing_less me.pages (facing n z).me.pages many p below gone (has_come sc ok n w z p taken asked) (still_here waits taken) in
+      let b = at_least sc.pages me in
+      nearer waits.txns taken (omega (arith, e, a, b))
+
+  -- where it cuts a page
+  cut_nearer : Cuts sc (facing n s) (facing n w) → Ahead sc t s
+  cut_nearer cuts =
+      let me = (facing n s).me in
+      let many = length me.lows in
+      let taken = all_come cuts.txns (ap may_wait (cuts.mode ∙ splits_in_normal me.mode cuts.normal)) in
+      let long = cuts.lows in
+      let e = then_settled (suc many) taken (omega (arith, long)) in
+      let a = missing_kept me.pages (facing n z).me.pages many (λ p own. taken.gains.kept p (cuts.kept p own)) in
+      let none = lacks_none (facing n z).me.pages many (taken.gains.kept many cuts.new) in
+      let b = at_least sc.pages me in
+      let room = cuts.room in
+      nearer cuts.txns taken (omega (arith, e, a, none, b, room))
+
+  -- by what its run brings
+  ahead : Ahead sc t s
+  ahead = elim (run_comes sc ok t s x) [
+    | On on ↦ got_on on
+    | For_dual waiting waits ↦ dual_nearer waiting waits
+    | For_page p pulls_on gone asked waits ↦ page_nearer p pulls_on gone asked waits
+    | Cut cuts ↦ cut_nearer cuts
+  ]
+
+-- t gets on in one more round than there are to come
+gets_on_in : (sc : Scenario) → IsScenario sc → (t d : ℕ) (s : State) → Lone sc t s → to_come_for sc t s ≤ d
+    → (k : ℕ) × (k ≤ d + 1) × OnIn sc t s k
+gets_on_in sc ok t zero s x few =
+    elim (ahead sc ok t s x) [
+      | Gets_on on ↦ (1, omega arith, on)
+      | Nearer later same less ↦ absurd (omega (arith, less, few))
+    ]
+gets_on_in sc ok t (suc d) s x few =
+    elim (ahead sc ok t s x) [
+      | Gets_on on ↦ (1, omega arith, on)
+      | Nearer later same less ↦
+          let z = after_round sc t s in
+          let rest = gets_on_in sc ok t d z later (omega (arith, less, few)) in
+          let within = rest.1 in
+          (suc rest.0, omega (arith, within), on_after sc t s rest.0 (subst (λ a. HasGotOn a (txn_of (play sc z (rounds sc t rest.0 z)) t)) same rest.2))
+    ]
+
+-- ---- the whole
+
+-- the transactions but one
+module _ (t : ℕ) (s : State) (active : is_active (txn_of s t).status ≡ true) where
+  -- those of the state, where t has not begun
+  abbrev others : List Txn
+  others = slice_set s.txns t nobody
+
+  -- t is not active there
+  t_off : is_active (txn_or (slice_get others t)).status ≡ false
+  unfolding txn_at
+  t_off = ap (λ (x : Txn). is_active x.status) (at_self (facing A s) (record (facing A s) { txns = others }) t nobody refl active)
+
+  -- every other is as it is
+  others_same : (u : ℕ) → (u ≡ t → ⊥) → txn_or (slice_get others u) ≡ txn_of s u
+  unfolding txn_at
+  others_same u far = at_other (facing A s) (record (facing A s) { txns = others }) t u nobody refl far
+
+  -- who is active there is another one, and active in the state
+  others_active : (u : ℕ) → is_active (txn_or (slice_get others u)).status ≡ true → is_active (txn_of s u).status ≡ true
+  others_active u h = elim (cases_eq u t) [
+    | inl same ↦ absurd (false≢true (sym t_off ∙ subst (λ y. is_active (txn_or (slice_get others y)).status ≡ true) same h))
+    | inr far ↦ ap (λ (x : Txn). is_active x.status) (sym (others_same u far)) ∙ h
+  ]
+
+-- once the others are killed, t alone is active, and as it was
+lone_after : (sc : Scenario) → IsScenario sc → (t : ℕ) (s : State) → From sc s → is_active (txn_of s t).status ≡ true
+    → let w = play sc s (kills_but t s) in Lone sc t w × (txn_of w t ≡ txn_of s t)
+lone_after sc ok t s f active =
+    let w = play sc s (kills_but t s) in
+    let k = killed_from sc ok (others t s active) 0 s f (λ i h.
+    let at : i ≡ 0 + i = omega arith in subst (λ (y : ℕ). is_active (txn_of s y).status ≡ true) at (others_active t s active i h)) in
+    let same : txn_of w t ≡ txn_of s t = k.others t (λ i e.
+    let at : t ≡ i = omega (arith, e) in subst (λ (y : ℕ). is_active (txn_or (slice_get (others t s active) y)).status ≡ false) at (t_off t s active)) in
+    (record {
+      from = k.from;
+      alone = λ u on. elim (cases_eq u t) [
+        | inl here ↦ here
+        | inr far ↦ absurd (elim (cases_Bool (is_active (txn_or (slice_get (others t s active) u)).status)) [
+          | inl killed ↦ let at : 0 + u ≡ u = omega arith in
+              false≢true (sym (subst (λ (y : ℕ). is_active (txn_of w y).status ≡ false) at (k.ended u killed)) ∙ on)
+          | inr off ↦
+              let kept = k.others u (λ i e. let at : u ≡ i = omega (arith, e) in
+              subst (λ (y : ℕ). is_active (txn_or (slice_get (others t s active) y)).status ≡ false) at off) in
+              false≢true (sym off ∙ ap (λ (y : Txn). is_active y.status) (others_same t s active u far ∙ sym kept) ∙ on)
+        ])
+      ];
+      active = ap (λ (y : Txn). is_active y.status) same ∙ active;
+    }, same)
+
+-- the law: nobody has to wait for ever
+pub gets_on : (sc : Scenario) → IsScenario sc → (cs : List Choice) (t : ℕ) → let s = play sc (opening sc) cs in is_active (txn_of s t).status ≡ true → GetsOn sc s t
+gets_on sc ok cs t active =
+    let s = play sc (opening sc) cs in
+    let w = play sc s (kills_but t s) in
+    let lone = lone_after sc ok t s (record { choices = cs; is = refl }) active in
+    let n = (txn_of w t).node in
+    let few = of_reached sc (λ y. length (facing n y).me.lows ≤ sc.pages) (λ ds. page_limit sc ok ds n) w lone.0.from in
+    let on = gets_on_in sc ok t (sc.pages + 1) w lone.0 (most sc.pages (facing n w).me few) in
+    let within = on.1 in
+    (on.0, omega (arith, within), subst (λ x. HasGotOn x (txn_of (play sc w (rounds sc t on.0 w)) t)) lone.1 on.2)
