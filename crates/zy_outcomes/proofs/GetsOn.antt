@@ -1,13 +1,13 @@
 -- Why nobody has to wait for ever: each round in which a transaction does not get on leaves less to come for it.
-use Rattle.std.proofs.Common.{◌≡◌, ℕ, ◌+◌, ◌-◌, ◌<◌, ◌≤◌, List, [], ◌∷◌, length, true, false, refl, sym, ap, ◌∙◌, subst, inl, inr, arith, zero, suc}
-use Rattle.std.specs.Prelude.{◌⊎◌, ◌==◌, Bool, if◌then◌else◌, slice_get, slice_set}
+use Rattle.std.proofs.Common.{◌≡◌, ℕ, ◌+◌, ◌-◌, ◌<◌, ◌≤◌, List, length, true, false, refl, sym, ap, ◌∙◌, subst, inl, inr, arith, zero, suc}
+use Rattle.std.specs.Prelude.{if◌then◌else◌, slice_get, slice_set}
 use Rattle.std.proofs.lemmas.Bool.{cases_Bool, cases_eq, cond_both, false≢true}
 use Rattle.zy_isa.specs.Scenario.{IsScenario, Scenario}
 use Rattle.zy_isa.specs.declared.choice.Choice.{Choice}
 use Rattle.zy_isa.specs.declared.choice.Choice.TheVariants.{Kill, Run}
 use Rattle.zy_isa.specs.declared.node.Node.{Node}
-use Rattle.zy_isa.specs.declared.node.Node.TheVariants.{A, B}
-use Rattle.zy_model.specs.Table.{is_waiting, may_pull, may_split}
+use Rattle.zy_isa.specs.declared.node.Node.TheVariants.{A}
+use Rattle.zy_model.specs.Table.{is_waiting, may_pull}
 use Rattle.zy_model.specs.declared.mode.NodeMode.{NodeMode}
 use Rattle.zy_model.specs.declared.mode.NodeMode.TheVariants.{DInit}
 use Rattle.zy_table.specs.Change.{nobody, txn_at, txn_or}
@@ -17,15 +17,15 @@ use Rattle.zy_table.specs.Numbers.{has}
 use Rattle.zy_table.specs.Pages.{owns}
 use Rattle.zy_table.specs.Play.{move, opening, play, step}
 use Rattle.zy_table.specs.Run.{run_step}
-use Rattle.zy_table.specs.State.{Leaf, NodeState, State, Txn, View, facing, seen_from}
+use Rattle.zy_table.specs.State.{Leaf, NodeState, State, Txn, View, facing}
 use Rattle.zy_table.specs.declared.outcome.Outcome.{Outcome}
 use Rattle.zy_table.specs.declared.outcome.Outcome.TheVariants as outcome
 use Rattle.zy_table.specs.declared.outcome.Why.{Why}
 use Rattle.zy_table.specs.declared.outcome.Why.TheVariants as why
-use Rattle.zy_laws.specs.WayOut.{enough, kills}
+use Rattle.zy_laws.specs.WayOut.{enough}
 use Rattle.zy_laws.proofs.sources.RealTime.{play-append}
 use Rattle.zy_laws.proofs.walk.ModeLines.{pulls_in, splits_in_normal}
-use Rattle.zy_laws.proofs.walk.Txns.{at_back, at_other, at_self, at_side}
+use Rattle.zy_laws.proofs.walk.Txns.{at_other, at_self, at_side}
 use Rattle.zy_laws.proofs.way_out.Kills.{From, from_step, killed_from}
 use Rattle.zy_laws.proofs.way_out.NoDeadEnd.{known, left_enough, txns_side}
 use Rattle.zy_outcomes.proofs.Coming.{on_its_way}
@@ -36,7 +36,7 @@ use Rattle.zy_outcomes.proofs.Steps.{face}
 use Rattle.zy_outcomes.proofs.Taken.{Taken, all_taken, links_from, may_wait, none_waits, takes_txns}
 use Rattle.zy_outcomes.specs.Accounts.{counted, is_of_run, txn_of}
 use Rattle.zy_outcomes.specs.Coming.{IsAwaited, OnItsWay, pulls}
-use Rattle.zy_outcomes.specs.GetsOn.{GetsOn, HasGotOn, kills_but, round, rounds, takes}
+use Rattle.zy_outcomes.specs.GetsOn.{GetsOn, HasGotOn, kills_but, round, rounds}
 use Rattle.zy_outcomes.specs.Reasons.{HasCause, HasReason, IsAlone}
 
 -- ---- what is to come
@@ -381,22 +381,24 @@ lone_after sc ok t s f active =
     let k = killed_from sc ok (others t s active) 0 s f (λ i h.
     let at : i ≡ 0 + i = omega arith in subst (λ (y : ℕ). is_active (txn_of s y).status ≡ true) at (others_active t s active i h)) in
     let same : txn_of w t ≡ txn_of s t = k.others t (λ i e.
-    let at : t ≡ i = omega (arith, e) in subst (λ (y : ℕ). is_active (txn_or (slice_get (others t s active) y)).status ≡ false) at (t_off t s active)) in
-    (record {
-      from = k.from;
-      alone = λ u on. elim (cases_eq u t) [
-        | inl here ↦ here
-        | inr far ↦ absurd (elim (cases_Bool (is_active (txn_or (slice_get (others t s active) u)).status)) [
-          | inl killed ↦ let at : 0 + u ≡ u = omega arith in
-              false≢true (sym (subst (λ (y : ℕ). is_active (txn_of w y).status ≡ false) at (k.ended u killed)) ∙ on)
-          | inr off ↦
-              let kept = k.others u (λ i e. let at : u ≡ i = omega (arith, e) in
-              subst (λ (y : ℕ). is_active (txn_or (slice_get (others t s active) y)).status ≡ false) at off) in
-              false≢true (sym off ∙ ap (λ (y : Txn). is_active y.status) (others_same t s active u far ∙ sym kept) ∙ on)
-        ])
-      ];
-      active = ap (λ (y : Txn). is_active y.status) same ∙ active;
-    }, same)
+    let at : t ≡ i = omega (arith, e) in subst (λ (y : ℕ). is_active (txn_or (slice_get (others t s active) y)).status ≡ false) at (t_off t s active)) in (
+      record {
+        from = k.from;
+        alone = λ u on. elim (cases_eq u t) [
+          | inl here ↦ here
+          | inr far ↦ absurd (elim (cases_Bool (is_active (txn_or (slice_get (others t s active) u)).status)) [
+            | inl killed ↦ let at : 0 + u ≡ u = omega arith in
+                false≢true (sym (subst (λ (y : ℕ). is_active (txn_of w y).status ≡ false) at (k.ended u killed)) ∙ on)
+            | inr off ↦
+                let kept = k.others u (λ i e. let at : u ≡ i = omega (arith, e) in
+                subst (λ (y : ℕ). is_active (txn_or (slice_get (others t s active) y)).status ≡ false) at off) in
+                false≢true (sym off ∙ ap (λ (y : Txn). is_active y.status) (others_same t s active u far ∙ sym kept) ∙ on)
+          ])
+        ];
+        active = ap (λ (y : Txn). is_active y.status) same ∙ active;
+      },
+      same,
+    )
 
 -- the law: nobody has to wait for ever
 pub gets_on : (sc : Scenario) → IsScenario sc → (cs : List Choice) (t : ℕ) → let s = play sc (opening sc) cs in is_active (txn_of s t).status ≡ true → GetsOn sc s t

@@ -1,5 +1,5 @@
 -- Where a transaction alone is active, at a node at which it may have to wait, all messages can be taken, and what that leaves there.
-use Rattle.std.proofs.Common.{◌≡◌, ℕ, ◌<◌, ◌≤◌, List, [], ◌∷◌, true, false, refl, sym, ap, ◌∙◌, subst, inl, inr, arith, zero, suc}
+use Rattle.std.proofs.Common.{◌≡◌, ℕ, ◌≤◌, List, [], ◌∷◌, true, false, refl, sym, ap, ◌∙◌, subst, inl, inr, arith, zero, suc}
 use Rattle.std.specs.Prelude.{◌⊎◌, Bool, Option, Some, None, slice_get}
 use Rattle.std.proofs.lemmas.Bool.{cases_Bool, cases_eq, eq-eqb, false≢true, or_left, or_right}
 use Rattle.zy_isa.specs.Scenario.{IsScenario, Scenario}
@@ -8,7 +8,7 @@ use Rattle.zy_isa.specs.declared.choice.Choice.TheVariants.{Take}
 use Rattle.zy_isa.specs.declared.node.Node.{Node}
 use Rattle.zy_isa.specs.declared.node.Node.TheVariants.{A, B}
 use Rattle.zy_model.specs.Families.{is_sending, is_taker}
-use Rattle.zy_model.specs.Messages.{Wire, Ready, Dual, Pull, Page, Finish, Done, kind_of}
+use Rattle.zy_model.specs.Messages.{Wire, Ready, Dual, Pull, Page, Finish, Done}
 use Rattle.zy_model.specs.Table.{is_waiting, on_message}
 use Rattle.zy_model.specs.declared.kind.Kind.{Kind}
 use Rattle.zy_model.specs.declared.kind.Kind.TheVariants as kind
@@ -22,8 +22,8 @@ use Rattle.zy_table.specs.Client.{is_active}
 use Rattle.zy_table.specs.Numbers.{has}
 use Rattle.zy_table.specs.Pages.{owns}
 use Rattle.zy_table.specs.Play.{move, play, step}
-use Rattle.zy_table.specs.State.{Leaf, Message, NodeState, State, Txn, View, facing, seen_from}
-use Rattle.zy_table.specs.Take.{arrival_step, front_step, message_step, mode_line, pull_step, take_step, with_brought}
+use Rattle.zy_table.specs.State.{Leaf, Message, NodeState, State, View, facing, seen_from}
+use Rattle.zy_table.specs.Take.{arrival_step, front_step, message_step, pull_step, take_step, with_brought}
 use Rattle.zy_laws.specs.WayOut.{led_by}
 use Rattle.zy_laws.proofs.owner.Phases.{Both_sent, Done_sent, DualThen, Dual_sent, Finish_sent, In_dual, In_finish, Is, AllPages, PagesAndFinish, Phase}
 use Rattle.zy_laws.proofs.owner.Phases.{Ready_sent, Resting, Wire_sent}
