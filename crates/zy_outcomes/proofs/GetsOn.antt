@@ -9,7 +9,6 @@ use Rattle.zy_isa.specs.declared.node.Node.{Node}
 use Rattle.zy_isa.specs.declared.node.Node.TheVariants.{A}
 use Rattle.zy_model.specs.Table.{is_waiting, may_pull}
 use Rattle.zy_model.specs.declared.mode.NodeMode.{NodeMode}
-use Rattle.zy_model.specs.declared.mode.NodeMode.TheVariants.{DInit}
 use Rattle.zy_table.specs.Change.{nobody, txn_at, txn_or}
 use Rattle.zy_table.specs.Client.{is_active}
 use Rattle.zy_table.specs.Database.{sent_leaves}
@@ -26,11 +25,11 @@ use Rattle.zy_laws.specs.WayOut.{enough}
 use Rattle.zy_laws.proofs.sources.RealTime.{play-append}
 use Rattle.zy_laws.proofs.walk.ModeLines.{pulls_in, splits_in_normal}
 use Rattle.zy_laws.proofs.walk.Txns.{at_other, at_self, at_side}
-use Rattle.zy_laws.proofs.way_out.Kills.{From, from_step, killed_from}
+use Rattle.zy_laws.proofs.way_out.Kills.{From, KilledAll, from_step, killed_from}
 use Rattle.zy_laws.proofs.way_out.NoDeadEnd.{known, left_enough, txns_side}
 use Rattle.zy_outcomes.proofs.Coming.{on_its_way}
 use Rattle.zy_outcomes.proofs.Limits.{page_limit}
-use Rattle.zy_outcomes.proofs.Runs.{Brings, Cuts, Fares, Goes, Stays, Waits, run_tells}
+use Rattle.zy_outcomes.proofs.Runs.{Brings, Cuts, Fares, Goes, Stays, Waits, run_tells, waits_in}
 use Rattle.zy_outcomes.proofs.RunsAlone.{a_run_gets_on_or_waits, waits_for_none}
 use Rattle.zy_outcomes.proofs.Steps.{face}
 use Rattle.zy_outcomes.proofs.Taken.{Taken, all_taken, links_from, may_wait, none_waits, takes_txns}
@@ -108,7 +107,7 @@ settled pages w x off long =
     let b = ap (λ n. missing x.pages n + (pages - n)) long in
     omega (arith, a, b)
 
--- any node has no less to come than its pages
+-- of what is to come are the pages that are missing, and the cuts
 at_least : (pages : ℕ) (x : NodeState) → missing x.pages (length x.lows) + (pages - length x.lows) ≤ to_come pages x
 at_least pages x = omega arith
 
@@ -205,12 +204,7 @@ has_come sc ok n w z p taken asked =
 
 -- ---- the rounds
 
--- where a transaction waits for `dual` it may have to wait
-waiting_may : (m : NodeMode) → is_waiting m ≡ true → may_wait m ≡ true
-waiting_may DInit h = refl
-waiting_may m h = absurd (false≢true h)
-
--- so it may at a node that asks for pages
+-- at a node that asks for pages a transaction may have to wait
 pulling_may : (m : NodeMode) → may_pull m ≡ true → may_wait m ≡ true
 pulling_may m h = elim (pulls_in m h) [ inl e ↦ ap may_wait e | inr e ↦ ap may_wait e ]
 
@@ -240,83 +234,90 @@ data Ahead (sc : Scenario) (t : ℕ) (s : State) : Type 0 where
       → to_come_for sc t (after_round sc t s) < to_come_for sc t s → Ahead sc t s
 
 module _ (sc : Scenario) (ok : IsScenario sc) (t : ℕ) (s : State) (x : Lone sc t s) where
-  -- the node of t, the state after its run, and the one after the round
-  abbrev n : Node
-  n = (txn_of s t).node
+  -- the node of t; what it has in a state; the state after the run, and the one after the round
+  abbrev home : Node
+  home = (txn_of s t).node
 
-  abbrev w : State
-  w = (step sc (Run n t) s).after
+  abbrev mine : State → NodeState
+  mine z = (facing home z).me
 
-  abbrev z : State
-  z = after_round sc t s
+  abbrev after_run : State
+  after_run = (step sc (Run home t) s).after
+
+  abbrev at_end : State
+  at_end = after_round sc t s
 
   -- where t has got on with its run
-  got_on : HasGotOn (txn_at (facing n s) t) (txn_at (facing n w) t) → Ahead sc t s
+  got_on : HasGotOn (txn_at (facing home s) t) (txn_at (facing home after_run) t) → Ahead sc t s
   got_on on =
-      let same : txn_of z t ≡ txn_at (facing n w) t = ap (λ xs. txn_or (slice_get xs t)) (takes_txns sc (enough w) w) ∙ sym (at_side n w t) in
-      Gets_on (on_after sc t s 0 (subst (λ a. HasGotOn a (txn_of z t)) (at_side n s t) (subst (HasGotOn (txn_at (facing n s) t)) (sym same) on)))
+      let same : txn_of at_end t ≡ txn_at (facing home after_run) t =
+      ap (λ xs. txn_or (slice_get xs t)) (takes_txns sc (enough after_run) after_run) ∙ sym (at_side home after_run t) in
+      Gets_on (on_after sc t s 0 (subst (λ a. HasGotOn a (txn_of at_end t)) (at_side home s t) (subst (HasGotOn (txn_at (facing home s) t)) (sym same) on)))
 
   -- where no transaction has changed by then, all messages are taken
-  all_come : (facing n w).txns ≡ (facing n s).txns → may_wait (facing n w).me.mode ≡ true → Taken sc n w z
+  all_come : (facing home after_run).txns ≡ (facing home s).txns → may_wait (mine after_run).mode ≡ true → Taken sc home after_run at_end
   all_come same h =
-      let txns : w.txns ≡ s.txns = sym (txns_side n w) ∙ same ∙ txns_side n s in
-      let lone = lone_on sc t s w txns (from_step sc (Run n t) s x.from) x in
-      all_taken sc ok t n (enough w) w lone.from lone.alone (ap (λ xs. (txn_or (slice_get xs t)).node) txns) h (left_enough w)
+      let txns : after_run.txns ≡ s.txns = sym (txns_side home after_run) ∙ same ∙ txns_side home s in
+      let lone = lone_on sc t s after_run txns (from_step sc (Run home t) s x.from) x in
+      all_taken sc ok t home (enough after_run) after_run lone.from lone.alone (ap (λ xs. (txn_or (slice_get xs t)).node) txns) h (left_enough after_run)
 
   -- and t is where it was
-  nearer : (facing n w).txns ≡ (facing n s).txns → Taken sc n w z → to_come sc.pages (facing n z).me < to_come sc.pages (facing n s).me → Ahead sc t s
+  nearer : (facing home after_run).txns ≡ (facing home s).txns → Taken sc home after_run at_end
+      → to_come sc.pages (mine at_end) < to_come sc.pages (mine s) → Ahead sc t s
   nearer same taken less =
-      let txns : z.txns ≡ s.txns = taken.txns ∙ sym (txns_side n w) ∙ same ∙ txns_side n s in
-      let txn : txn_of z t ≡ txn_of s t = ap (λ xs. txn_or (slice_get xs t)) txns in
-      Nearer (lone_on sc t s z txns taken.from x) txn
-      (subst (λ m. to_come sc.pages (facing m z).me < to_come sc.pages (facing n s).me) (ap (λ (y : Txn). y.node) (sym txn)) less)
+      let txns : at_end.txns ≡ s.txns = taken.txns ∙ sym (txns_side home after_run) ∙ same ∙ txns_side home s in
+      let txn : txn_of at_end t ≡ txn_of s t = ap (λ xs. txn_or (slice_get xs t)) txns in
+      Nearer (lone_on sc t s at_end txns taken.from x) txn
+      (subst (λ m. to_come sc.pages (facing m at_end).me < to_come sc.pages (mine s)) (ap (λ (y : Txn). y.node) (sym txn)) less)
 
   -- what is to come at the end of a round, by how many low keys there are
-  then_settled : (many : ℕ) → Taken sc n w z → length (facing n w).me.lows ≡ many
-      → to_come sc.pages (facing n z).me ≡ missing (facing n z).me.pages many + (sc.pages - many)
+  then_settled : (many : ℕ) → Taken sc home after_run at_end → length (mine after_run).lows ≡ many
+      → to_come sc.pages (mine at_end) ≡ missing (mine at_end).pages many + (sc.pages - many)
   then_settled many taken long =
-      settled sc.pages many (facing n z).me (none_waits n z (known sc ok z taken.from) taken.links) (ap length taken.gains.lows ∙ long)
+      settled sc.pages many (mine at_end) (none_waits home at_end (known sc ok at_end taken.from) taken.links) (ap length taken.gains.lows ∙ long)
 
   -- where t waits, the pages that were here are here still
-  still_here : Waits (facing n s) (facing n w) → Taken sc n w z → (p : ℕ) → owns (facing n s).me.pages p ≡ true → owns (facing n z).me.pages p ≡ true
+  still_here : Waits (facing home s) (facing home after_run) → Taken sc home after_run at_end → (p : ℕ) → owns (mine s).pages p ≡ true
+      → owns (mine at_end).pages p ≡ true
   still_here waits taken p own = taken.gains.kept p (subst (λ xs. owns xs p ≡ true) (sym waits.pages) own)
 
   -- where it waits for `dual`
-  dual_nearer : is_waiting (facing n s).me.mode ≡ true → Waits (facing n s) (facing n w) → Ahead sc t s
+  dual_nearer : is_waiting (mine s).mode ≡ true → Waits (facing home s) (facing home after_run) → Ahead sc t s
   dual_nearer waiting waits =
-      let me = (facing n s).me in
+      let me = mine s in
       let many = length me.lows in
-      let taken = all_come waits.txns (ap may_wait waits.mode ∙ waiting_may me.mode waiting) in
+      let taken = all_come waits.txns (ap may_wait (waits.mode ∙ waits_in me.mode waiting)) in
       let e = then_settled many taken (ap length waits.lows) in
-      let a = missing_kept me.pages (facing n z).me.pages many (still_here waits taken) in
+      let a = missing_kept me.pages (mine at_end).pages many (still_here waits taken) in
       let b : to_come sc.pages me ≡ 1 + missing me.pages many + (sc.pages - many) =
       ap (λ b. (if b then 1 else 0) + missing me.pages many + (sc.pages - many)) waiting in
       nearer waits.txns taken (omega (arith, e, a, b))
 
   -- where it waits for a page
-  page_nearer : (p : ℕ) → may_pull (facing n s).me.mode ≡ true → owns (facing n s).me.pages p ≡ false → has (facing n w).me.asked p ≡ true
-      → Waits (facing n s) (facing n w) → Ahead sc t s
+  page_nearer : (p : ℕ) → may_pull (mine s).mode ≡ true → owns (mine s).pages p ≡ false → has (mine after_run).asked p ≡ true
+      → Waits (facing home s) (facing home after_run) → Ahead sc t s
   page_nearer p pulls_on gone asked waits =
-      let me = (facing n s).me in
+      let me = mine s in
       let many = length me.lows in
       let taken = all_come waits.txns (ap may_wait waits.mode ∙ pulling_may me.mode pulls_on) in
       let e = then_settled many taken (ap length waits.lows) in
-      let way = of_reached sc (λ y. OnItsWay (facing n y)) (λ cs. on_its_way sc ok cs n) w (from_step sc (Run n t) s x.from) in
+      let way = of_reached sc (λ y. OnItsWay (facing home y)) (λ cs. on_its_way sc ok cs home) after_run (from_step sc (Run home t) s x.from) in
       let below : p < many = subst (λ ls. p < length ls) waits.lows (way.asked p asked).known in
-      let a = missing_less me.pages (facing n z).me.pages many p below gone (has_come sc ok n w z p taken asked) (still_here waits taken) in
+      let come = has_come sc ok home after_run at_end p taken asked in
+      let a = missing_less me.pages (mine at_end).pages many p below gone come (still_here waits taken) in
       let b = at_least sc.pages me in
       nearer waits.txns taken (omega (arith, e, a, b))
 
   -- where it cuts a page
-  cut_nearer : Cuts sc (facing n s) (facing n w) → Ahead sc t s
+  cut_nearer : Cuts sc (facing home s) (facing home after_run) → Ahead sc t s
   cut_nearer cuts =
-      let me = (facing n s).me in
+      let me = mine s in
       let many = length me.lows in
       let taken = all_come cuts.txns (ap may_wait (cuts.mode ∙ splits_in_normal me.mode cuts.normal)) in
       let long = cuts.lows in
       let e = then_settled (suc many) taken (omega (arith, long)) in
-      let a = missing_kept me.pages (facing n z).me.pages many (λ p own. taken.gains.kept p (cuts.kept p own)) in
-      let none = lacks_none (facing n z).me.pages many (taken.gains.kept many cuts.new) in
+      let a = missing_kept me.pages (mine at_end).pages many (λ p own. taken.gains.kept p (cuts.kept p own)) in
+      let none = lacks_none (mine at_end).pages many (taken.gains.kept many cuts.new) in
       let b = at_least sc.pages me in
       let room = cuts.room in
       nearer cuts.txns taken (omega (arith, e, a, none, b, room))
@@ -373,41 +374,52 @@ module _ (t : ℕ) (s : State) (active : is_active (txn_of s t).status ≡ true)
     | inr far ↦ ap (λ (x : Txn). is_active x.status) (sym (others_same u far)) ∙ h
   ]
 
--- once the others are killed, t alone is active, and as it was
-lone_after : (sc : Scenario) → IsScenario sc → (t : ℕ) (s : State) → From sc s → is_active (txn_of s t).status ≡ true
-    → let w = play sc s (kills_but t s) in Lone sc t w × (txn_of w t ≡ txn_of s t)
-lone_after sc ok t s f active =
-    let w = play sc s (kills_but t s) in
-    let k = killed_from sc ok (others t s active) 0 s f (λ i h.
-    let at : i ≡ 0 + i = omega arith in subst (λ (y : ℕ). is_active (txn_of s y).status ≡ true) at (others_active t s active i h)) in
-    let same : txn_of w t ≡ txn_of s t = k.others t (λ i e.
-    let at : t ≡ i = omega (arith, e) in subst (λ (y : ℕ). is_active (txn_or (slice_get (others t s active) y)).status ≡ false) at (t_off t s active)) in (
-      record {
-        from = k.from;
-        alone = λ u on. elim (cases_eq u t) [
-          | inl here ↦ here
-          | inr far ↦ absurd (elim (cases_Bool (is_active (txn_or (slice_get (others t s active) u)).status)) [
-            | inl killed ↦ let at : 0 + u ≡ u = omega arith in
-                false≢true (sym (subst (λ (y : ℕ). is_active (txn_of w y).status ≡ false) at (k.ended u killed)) ∙ on)
-            | inr off ↦
-                let kept = k.others u (λ i e. let at : u ≡ i = omega (arith, e) in
-                subst (λ (y : ℕ). is_active (txn_or (slice_get (others t s active) y)).status ≡ false) at off) in
-                false≢true (sym off ∙ ap (λ (y : Txn). is_active y.status) (others_same t s active u far ∙ sym kept) ∙ on)
-          ])
-        ];
-        active = ap (λ (y : Txn). is_active y.status) same ∙ active;
-      },
-      same,
-    )
+-- once those are killed the others have ended, and t is as it was
+module _ (sc : Scenario) (ok : IsScenario sc) (t : ℕ) (s : State) (f : From sc s) (active : is_active (txn_of s t).status ≡ true) where
+  -- the state after the kills
+  abbrev spared : State
+  spared = play sc s (kills_but t s)
+
+  -- what the kills leave
+  killed : KilledAll sc 0 (others t s active) s spared
+  killed =
+      killed_from sc ok (others t s active) 0 s f
+      (λ i h. let at : i ≡ 0 + i = omega arith in subst (λ (y : ℕ). is_active (txn_of s y).status ≡ true) at (others_active t s active i h))
+
+  -- who was not among them is as it was
+  not_among : (u : ℕ) → is_active (txn_or (slice_get (others t s active) u)).status ≡ false → txn_of spared u ≡ txn_of s u
+  not_among u off =
+      killed.others u (λ i e.
+      let at : u ≡ i = omega (arith, e) in subst (λ (y : ℕ). is_active (txn_or (slice_get (others t s active) y)).status ≡ false) at off)
+
+  -- so is t
+  t_same : txn_of spared t ≡ txn_of s t
+  t_same = not_among t (t_off t s active)
+
+  -- every other is not active
+  other_ended : (u : ℕ) → (u ≡ t → ⊥) → is_active (txn_of spared u).status ≡ false
+  other_ended u far = elim (cases_Bool (is_active (txn_or (slice_get (others t s active) u)).status)) [
+    | inl on ↦ let at : 0 + u ≡ u = omega arith in subst (λ (y : ℕ). is_active (txn_of spared y).status ≡ false) at (killed.ended u on)
+    | inr off ↦ ap (λ (y : Txn). is_active y.status) (not_among u off ∙ sym (others_same t s active u far)) ∙ off
+  ]
+
+  -- and t alone is active
+  lone_after : Lone sc t spared
+  lone_after = record {
+    from = killed.from;
+    alone = λ u on. elim (cases_eq u t) [ inl here ↦ here | inr far ↦ absurd (false≢true (sym (other_ended u far) ∙ on)) ];
+    active = ap (λ (y : Txn). is_active y.status) t_same ∙ active;
+  }
 
 -- the law: nobody has to wait for ever
 pub gets_on : (sc : Scenario) → IsScenario sc → (cs : List Choice) (t : ℕ) → let s = play sc (opening sc) cs in is_active (txn_of s t).status ≡ true → GetsOn sc s t
 gets_on sc ok cs t active =
     let s = play sc (opening sc) cs in
+    let f : From sc s = record { choices = cs; is = refl } in
     let w = play sc s (kills_but t s) in
-    let lone = lone_after sc ok t s (record { choices = cs; is = refl }) active in
+    let lone = lone_after sc ok t s f active in
     let n = (txn_of w t).node in
-    let few = of_reached sc (λ y. length (facing n y).me.lows ≤ sc.pages) (λ ds. page_limit sc ok ds n) w lone.0.from in
-    let on = gets_on_in sc ok t (sc.pages + 1) w lone.0 (most sc.pages (facing n w).me few) in
+    let few = of_reached sc (λ y. length (facing n y).me.lows ≤ sc.pages) (λ ds. page_limit sc ok ds n) w lone.from in
+    let on = gets_on_in sc ok t (sc.pages + 1) w lone (most sc.pages (facing n w).me few) in
     let within = on.1 in
-    (on.0, omega (arith, within), subst (λ x. HasGotOn x (txn_of (play sc w (rounds sc t on.0 w)) t)) lone.1 on.2)
+    (on.0, omega (arith, within), subst (λ x. HasGotOn x (txn_of (play sc w (rounds sc t on.0 w)) t)) (t_same sc ok t s f active) on.2)

@@ -96,7 +96,7 @@ abbrev pub HasNext : Scenario → ℕ → View → Type 0
 HasNext sc t v = (i : Instr) × (slice_get (program_of sc t) (txn_at v t).pc ≡ Some i)
 
 -- a mode in which transactions wait is DInit
-waits_in : (m : NodeMode) → is_waiting m ≡ true → m ≡ DInit
+pub waits_in : (m : NodeMode) → is_waiting m ≡ true → m ≡ DInit
 waits_in DInit h = refl
 waits_in m h = absurd (false≢true h)
 

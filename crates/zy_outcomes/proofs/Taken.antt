@@ -28,16 +28,16 @@ use Rattle.zy_laws.specs.WayOut.{led_by}
 use Rattle.zy_laws.proofs.owner.Phases.{Both_sent, Done_sent, DualThen, Dual_sent, Finish_sent, In_dual, In_finish, Is, AllPages, PagesAndFinish, Phase}
 use Rattle.zy_laws.proofs.owner.Phases.{Ready_sent, Resting, Wire_sent}
 use Rattle.zy_laws.proofs.owner.PhaseSteps.{taker_of}
-use Rattle.zy_laws.proofs.owner.Stray.{knows_front}
 use Rattle.zy_laws.proofs.travel.Between.{no_lock}
 use Rattle.zy_laws.proofs.travel.OneWay.{sourced}
 use Rattle.zy_laws.proofs.walk.Conditions.{rest}
 use Rattle.zy_laws.proofs.walk.Events.{step_happens}
 use Rattle.zy_laws.proofs.walk.ModeLines.{sends_in}
 use Rattle.zy_laws.proofs.way_out.Kills.{From, from_step}
-use Rattle.zy_laws.proofs.way_out.Less.{Lowered, left, lowered, migration_step, take_less}
-use Rattle.zy_laws.proofs.way_out.NoDeadEnd.{Known, known}
+use Rattle.zy_laws.proofs.way_out.Less.{Lowered, left, migration_step}
+use Rattle.zy_laws.proofs.way_out.NoDeadEnd.{Known, known, take_lowers}
 use Rattle.zy_outcomes.proofs.Coming.{has_kept}
+use Rattle.zy_outcomes.proofs.Runs.{waits_in}
 use Rattle.zy_outcomes.proofs.RunsAlone.{holder_alone}
 use Rattle.zy_outcomes.specs.Accounts.{txn_of}
 use Rattle.zy_outcomes.specs.GetsOn.{take_by, takes}
@@ -225,13 +225,9 @@ module _ (sc : Scenario) (ok : IsScenario sc) (t : ℕ) (n : Node) where
       sends_not (facing m s).me.mode sends (subst (λ z. may_wait (facing z s).me.mode ≡ true) same h))
 
   -- so a take of what is on the link leaves less to do
-  take_lowers : (s : State) → Known s → IsAlone s t → (txn_of s t).node ≡ n → may_wait (facing n s).me.mode ≡ true → (m : Node) (first : Message)
+  lowers : (s : State) → From sc s → IsAlone s t → (txn_of s t).node ≡ n → may_wait (facing n s).me.mode ≡ true → (m : Node) (first : Message)
       (ms : List Message) → (facing m s).inbox ≡ first ∷ ms → Lowered s (step sc (Take m) s).after
-  unfolding step move
-  take_lowers s k alone at h m first ms e =
-      let v = facing m s in
-      lowered m s (take_step sc v).after
-      (take_less v sc first (record { after = ms; front = e }) (λ line. knows_front v first ms e line (k.inv m).roles) (free s k alone at h m))
+  lowers s f alone at h m = let k = known sc ok s f in take_lowers sc m s k (free s k alone at h m)
 
   -- and all can be taken
   pub all_taken : (k : ℕ) (s : State) → From sc s → IsAlone s t → (txn_of s t).node ≡ n → may_wait (facing n s).me.mode ≡ true → left (facing A s) ≤ k
@@ -240,7 +236,7 @@ module _ (sc : Scenario) (ok : IsScenario sc) (t : ℕ) (n : Node) where
       elim (next_cases s s.ab s.ba refl refl) [
         | Nothing ab ba is ↦ record { from = f; txns = refl; gains = gains_none (facing n s).me h; links = (ab, ba) }
         | Takes m first ms e is ↦
-            let less = (take_lowers s (known sc ok s f) alone at h m first ms e).less in absurd (omega (arith, less, most))
+            let less = (lowers s f alone at h m first ms e).less in absurd (omega (arith, less, most))
       ]
   all_taken (suc k) s f alone at h most =
       let to : Option Choice → Type 0 = λ o. Taken sc n s (play sc s (led_by o (λ c. takes sc k (step sc c s).after))) in
@@ -248,7 +244,7 @@ module _ (sc : Scenario) (ok : IsScenario sc) (t : ℕ) (n : Node) where
         | Nothing ab ba is ↦ subst to (sym is) (record { from = f; txns = refl; gains = gains_none (facing n s).me h; links = (ab, ba) })
         | Takes m first ms e is ↦
             let w = (step sc (Take m) s).after in
-            let low = take_lowers s (known sc ok s f) alone at h m first ms e in
+            let low = lowers s f alone at h m first ms e in
             let less = low.less in
             let g = step_gains sc n m s h in
             let rest = all_taken k w (from_step sc (Take m) s f) (subst (λ xs. (u : ℕ) → is_active (txn_or (slice_get xs u)).status ≡ true → u ≡ t) (sym low.txns) alone)
@@ -262,11 +258,6 @@ module _ (sc : Scenario) (ok : IsScenario sc) (t : ℕ) (n : Node) where
       ]
 
 -- ---- once they are taken
-
--- who waits for `dual` is a destination
-waits_taker : (m : NodeMode) → is_waiting m ≡ true → is_taker m ≡ true
-waits_taker DInit h = refl
-waits_taker m h = absurd (false≢true h)
 
 -- where nothing is on its way, the destination of a migration has passed `dual`
 landed : {src dst : NodeState} {out back : List Message} → Phase src dst out back → out ≡ [] → back ≡ [] → is_waiting dst.mode ≡ false
@@ -291,6 +282,6 @@ none_waits n s k e =
     let v = facing n s in
     let links = links_from n s e in
     elim (cases_Bool (is_waiting v.me.mode)) [
-      | inl waits ↦ landed (taker_of v (k.inv n).roles (waits_taker v.me.mode waits)) links.0 links.1
+      | inl waits ↦ landed (taker_of v (k.inv n).roles (ap is_taker (waits_in v.me.mode waits))) links.0 links.1
       | inr off ↦ off
     ]

@@ -125,16 +125,17 @@ some_page v i l inbox outbox finish none =
     let out_none : times_sent m.0 v.outbox ≡ 0 = ap (times_sent m.0) outbox in
     absurd (grind (arith, nat_tests, k, below, mine, theirs, in_none, out_none))
 
--- each of what may come next leaves less to do
-module _ (sc : Scenario) (n : Node) (s : State) (k : Known s) (idle : NoneActive s) where
-  -- a take of what is on the link
-  take_lowers : (m : Message) (ms : List Message) → (facing n s).inbox ≡ m ∷ ms → Lowered s (step sc (Take n) s).after
-  unfolding step move
-  take_lowers m ms e =
-      let v = facing n s in
-      lowered n s (take_step sc v).after
-      (take_less v sc m (record { after = ms; front = e }) (λ line. knows_front v m ms e line (k.inv n).roles) (λ _. free_locks n s k idle))
+-- a take of what is on the link, at a node that has no lock or does not send
+pub take_lowers : (sc : Scenario) (n : Node) (s : State) → Known s → (is_sending (facing n s).me.mode ≡ true → (facing n s).me.locks ≡ [])
+    → (m : Message) (ms : List Message) → (facing n s).inbox ≡ m ∷ ms → Lowered s (step sc (Take n) s).after
+unfolding step move
+take_lowers sc n s k free m ms e =
+    let v = facing n s in
+    lowered n s (take_step sc v).after
+    (take_less v sc m (record { after = ms; front = e }) (λ line. knows_front v m ms e line (k.inv n).roles) free)
 
+-- what a node does of itself, with no message to take
+module _ (sc : Scenario) (n : Node) (s : State) (k : Known s) (idle : NoneActive s) where
   -- a finish in SDual
   finish_lowers : (facing n s).me.mode ≡ SDual → Lowered s (step sc (Finish_at n) s).after
   unfolding step move
@@ -177,7 +178,7 @@ data Ahead (sc : Scenario) (s : State) : Type 0 where
 ahead : (sc : Scenario) (s : State) → Known s → NoneActive s → Ahead sc s
 ahead sc s k idle =
     elim (next_cases s s.ab s.ba s.a.mode s.b.mode refl refl refl refl) [
-      | Takes n m ms e is ↦ Goes_on (Take n) is refl (take_lowers sc n s k idle m ms e)
+      | Takes n m ms e is ↦ Goes_on (Take n) is refl (take_lowers sc n s k (λ _. free_locks n s k idle) m ms e)
       | Ends_dual n dual is ↦ Goes_on (Finish_at n) is refl (finish_lowers sc n s k idle dual)
       | Hands_on n inbox outbox finish is ↦ Goes_on (Push n) is refl (push_lowers sc n s k idle inbox outbox finish)
       | Nothing ab ba a b is ↦ At_end (over_by s k idle ab ba a b (k.inv A).roles) is
