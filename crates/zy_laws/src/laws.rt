@@ -186,11 +186,11 @@ pub fn serializable()
 
 /// Every run is strictly serializable, under both rules, in the migration order: of each migration first all that
 /// committed at its source, then all that committed at its destination, each in commit order. Database and registers are
-/// those of the committed programs, run one by one in this order; each of these lone runs ends by its commit, and each
-/// committed transaction was on its lone run at each point at which it was active (view equivalence, by values). So was,
-/// until it aborted, a transaction that aborts, at a place of its own in the order (opacity's condition on each
-/// transaction; no order of all transactions is given). A transaction that commits before another begins precedes it, and
-/// those that have committed never change their order.
+/// those of the committed programs, run one by one in this order. Each of these lone runs ends by its commit, and each
+/// committed transaction was on its lone run at each point at which it was active (view equivalence, by values). A
+/// transaction that aborts was on its lone run, too, from the rows that a prefix of the order produces (opacity's
+/// condition on each transaction; no order of all transactions is given). A transaction that commits before another begins
+/// precedes it, and those that have committed never change their order.
 pub fn strictly_serializable()
     ensures { (sc : Scenario) → IsScenario sc → (choices : List AChoice) → StrictlySerializable sc choices }
 {}

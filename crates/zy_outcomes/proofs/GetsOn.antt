@@ -1,4 +1,4 @@
--- Why nobody has to wait for ever: each round in which a transaction does not get on leaves less to come for it.
+-- Why no transaction has to wait forever: each round in which it does not get on leaves less to come for it.
 use Rattle.std.proofs.Common.{◌≡◌, ℕ, ◌+◌, ◌-◌, ◌<◌, ◌≤◌, List, length, true, false, refl, sym, ap, ◌∙◌, subst, inl, inr, arith, zero, suc}
 use Rattle.std.specs.Prelude.{if◌then◌else◌, slice_get, slice_set}
 use Rattle.std.proofs.lemmas.Bool.{cases_Bool, cases_eq, cond_both, false≢true}
@@ -40,7 +40,7 @@ use Rattle.zy_outcomes.specs.Reasons.{HasCause, HasReason, IsAlone}
 
 -- ---- what is to come
 
--- one where this page is missing
+-- 1 if page p is missing, else 0
 abbrev lacks : List Leaf → ℕ → ℕ
 lacks xs p = if owns xs p then 0 else 1
 
@@ -49,40 +49,40 @@ abbrev missing : List Leaf → ℕ → ℕ
 missing xs zero = 0
 missing xs (suc w) = lacks xs w + missing xs w
 
--- how many rounds may bring nothing at a node: one before `dual`, one for each page that is missing, and one for each cut
+-- how many rounds can pass at a node before t gets on: one for `dual`, one for each missing page, and one for each split that is left
 abbrev to_come : ℕ → NodeState → ℕ
 to_come pages x = (if is_waiting x.mode then 1 else 0) + missing x.pages (length x.lows) + (pages - length x.lows)
 
--- a page is missing or not
+-- a page counts for at most 1
 lacks_most : (xs : List Leaf) (p : ℕ) → lacks xs p ≤ 1
 lacks_most xs p = cond_both (owns xs p) 0 1 (λ z. z ≤ 1) (λ _. omega arith) (λ _. omega arith)
 
--- one that is here is not
+-- a page that is here counts for 0
 lacks_none : (xs : List Leaf) (p : ℕ) → owns xs p ≡ true → lacks xs p ≡ 0
 lacks_none xs p own = ap (λ b. if b then 0 else 1) own
 
--- one that is not here is
+-- a page that is not here counts for 1
 lacks_one : (xs : List Leaf) (p : ℕ) → owns xs p ≡ false → lacks xs p ≡ 1
 lacks_one xs p off = ap (λ b. if b then 0 else 1) off
 
--- where pages stay, none is missing that was not
+-- a page that stays counts for no more than before
 lacks_kept : (xs ys : List Leaf) (p : ℕ) → (owns xs p ≡ true → owns ys p ≡ true) → lacks ys p ≤ lacks xs p
 lacks_kept xs ys p kept = elim (cases_Bool (owns xs p)) [
   | inl own ↦ let a = lacks_none ys p (kept own) in omega (arith, a)
   | inr off ↦ let a = lacks_one xs p off in let b = lacks_most ys p in omega (arith, a, b)
 ]
 
--- no more are missing than there are
+-- at most w of the first w pages are missing
 missing_most : (xs : List Leaf) (w : ℕ) → missing xs w ≤ w
 missing_most xs zero = omega arith
 missing_most xs (suc w) = let a = lacks_most xs w in let b = missing_most xs w in omega (arith, a, b)
 
--- where pages stay, no more are missing
+-- if pages stay, no more are missing than before
 missing_kept : (xs ys : List Leaf) (w : ℕ) → ((p : ℕ) → owns xs p ≡ true → owns ys p ≡ true) → missing ys w ≤ missing xs w
 missing_kept xs ys zero kept = omega arith
 missing_kept xs ys (suc w) kept = let a = lacks_kept xs ys w (kept w) in let b = missing_kept xs ys w kept in omega (arith, a, b)
 
--- and fewer, where one has come
+-- if a missing page has come, too, fewer are
 missing_less : (xs ys : List Leaf) (w p : ℕ) → p < w → owns xs p ≡ false → owns ys p ≡ true → ((q : ℕ) → owns xs q ≡ true → owns ys q ≡ true)
     → missing ys w < missing xs w
 missing_less xs ys zero p below off own kept = absurd (omega (arith, below))
@@ -99,7 +99,7 @@ missing_less xs ys (suc w) p below off own kept =
           omega (arith, a, b)
     ]
 
--- a node that does not wait for `dual`, by how many low keys it has
+-- what is to come at a node that does not wait for `dual`
 settled : (pages w : ℕ) (x : NodeState) → is_waiting x.mode ≡ false → length x.lows ≡ w → to_come pages x ≡ missing x.pages w + (pages - w)
 settled pages w x off long =
     let a : to_come pages x ≡ 0 + missing x.pages (length x.lows) + (pages - length x.lows) =
@@ -107,11 +107,11 @@ settled pages w x off long =
     let b = ap (λ n. missing x.pages n + (pages - n)) long in
     omega (arith, a, b)
 
--- of what is to come are the pages that are missing, and the cuts
+-- what is to come is at least the missing pages and the splits that are left
 at_least : (pages : ℕ) (x : NodeState) → missing x.pages (length x.lows) + (pages - length x.lows) ≤ to_come pages x
 at_least pages x = omega arith
 
--- a node has at most pages + 1 to come
+-- at most pages + 1 rounds are to come
 most : (pages : ℕ) (x : NodeState) → length x.lows ≤ pages → to_come pages x ≤ pages + 1
 most pages x few =
     let a = missing_most x.pages (length x.lows) in
@@ -120,25 +120,25 @@ most pages x few =
 
 -- ---- a run
 
--- what a run of t at n brings, in the views of n: it gets on, or it waits, or it cuts a page
+-- what a run of t brings, in the views of its node before and after: t gets on, waits for `dual` or for a page, or splits a page
 data Comes (sc : Scenario) (t : ℕ) (v w : View) : Type 0 where
   On : HasGotOn (txn_at v t) (txn_at w t) → Comes sc t v w
   For_dual : is_waiting v.me.mode ≡ true → Waits v w → Comes sc t v w
   For_page : (p : ℕ) → may_pull v.me.mode ≡ true → owns v.me.pages p ≡ false → has w.me.asked p ≡ true → Waits v w → Comes sc t v w
   Cut : Cuts sc v w → Comes sc t v w
 
--- a transaction that did an instruction more has got on
+-- t did an instruction more
 did_more : (sc : Scenario) (t : ℕ) (o : Outcome) (v w : View) → Fares t o v w → counted o ≡ 1 → Comes sc t v w
 did_more sc t o v w (Stays same none) one = absurd (omega (arith, none, one))
 did_more sc t o v w (Goes y active set done regs) one =
     let e = ap (λ (x : Txn). x.done) (at_self v w t y set active) in
     On (inl (omega (arith, done, one, e)))
 
--- a run aborts by no kill
+-- the abort of a run is no kill
 no_kill : (sc : Scenario) (n : Node) (v : View) (t u : ℕ) (y : Why) → HasCause sc n v (Run n t) u y → y ≡ why.Killed → ⊥
 no_kill sc n v t u y cause e = let k : Run n t ≡ Kill u = subst (HasCause sc n v (Run n t) u) e cause in cc k
 
--- by the outcome
+-- what a run brings, by its outcome
 comes : (sc : Scenario) (n : Node) (t : ℕ) (v w : View) (o : Outcome) → HasReason sc n v (Run n t) o → Fares t o v w → IsAwaited o w.me
     → Brings sc t o v w → is_of_run o ≡ true → ((p : ℕ) → o ≡ outcome.Waits p → ⊥) → Comes sc t v w
 comes sc n t v w outcome.Did reason fares awaited brings h free = did_more sc t outcome.Did v w fares refl
@@ -153,13 +153,13 @@ comes sc n t v w o reason fares awaited brings h free = absurd (false≢true h)
 
 -- ---- a round
 
--- what else is so where a round begins: the state is reached, and t alone is active
+-- a state in which a round begins: it is reached, and t alone is active
 record Lone (sc : Scenario) (t : ℕ) (s : State) : Type 0 where
   from : From sc s
   alone : IsAlone s t
   active : is_active (txn_of s t).status ≡ true
 
--- the same where no transaction has changed
+-- a later state in which no transaction has changed is one, too
 lone_on : (sc : Scenario) (t : ℕ) (s w : State) → w.txns ≡ s.txns → From sc w → Lone sc t s → Lone sc t w
 lone_on sc t s w same from x = record {
   from = from;
@@ -167,11 +167,11 @@ lone_on sc t s w same from x = record {
   active = ap (λ xs. is_active (txn_or (slice_get xs t)).status) same ∙ x.active;
 }
 
--- a law of each reached state
+-- what holds after all choices holds in a reached state
 of_reached : (sc : Scenario) (P : State → Type 0) → ((cs : List Choice) → P (play sc (opening sc) cs)) → (s : State) → From sc s → P s
 of_reached sc P law s f = subst P f.is (law f.choices)
 
--- a run of t in such a state
+-- what a run of t brings in a state in which a round begins
 run_comes : (sc : Scenario) → IsScenario sc → (t : ℕ) (s : State) → Lone sc t s → let n = (txn_of s t).node in
     Comes sc t (facing n s) (facing n (step sc (Run n t) s).after)
 unfolding step move
@@ -216,7 +216,7 @@ OnIn sc t s n = HasGotOn (txn_of s t) (txn_of (play sc s (rounds sc t n s)) t)
 abbrev after_round : Scenario → ℕ → State → State
 after_round sc t s = play sc s (round sc t s)
 
--- the rounds from there on
+-- t has got on after one round more, if it has in the rounds from there on
 on_after : (sc : Scenario) (t : ℕ) (s : State) (k : ℕ) → let z = after_round sc t s in
     HasGotOn (txn_of s t) (txn_of (play sc z (rounds sc t k z)) t) → OnIn sc t s (suc k)
 on_after sc t s k on =
@@ -247,21 +247,21 @@ module _ (sc : Scenario) (ok : IsScenario sc) (t : ℕ) (s : State) (x : Lone sc
   abbrev at_end : State
   at_end = after_round sc t s
 
-  -- where t has got on with its run
+  -- if t has got on by its run, it has after the round
   got_on : HasGotOn (txn_at (facing home s) t) (txn_at (facing home after_run) t) → Ahead sc t s
   got_on on =
       let same : txn_of at_end t ≡ txn_at (facing home after_run) t =
       ap (λ xs. txn_or (slice_get xs t)) (takes_txns sc (enough after_run) after_run) ∙ sym (at_side home after_run t) in
       Gets_on (on_after sc t s 0 (subst (λ a. HasGotOn a (txn_of at_end t)) (at_side home s t) (subst (HasGotOn (txn_at (facing home s) t)) (sym same) on)))
 
-  -- where no transaction has changed by then, all messages are taken
+  -- if the run changed no transaction, all messages are taken
   all_come : (facing home after_run).txns ≡ (facing home s).txns → may_wait (mine after_run).mode ≡ true → Taken sc home after_run at_end
   all_come same h =
       let txns : after_run.txns ≡ s.txns = sym (txns_side home after_run) ∙ same ∙ txns_side home s in
       let lone = lone_on sc t s after_run txns (from_step sc (Run home t) s x.from) x in
       all_taken sc ok t home (enough after_run) after_run lone.from lone.alone (ap (λ xs. (txn_or (slice_get xs t)).node) txns) h (left_enough after_run)
 
-  -- and t is where it was
+  -- then a round can begin again, and if less is to come, it has come nearer
   nearer : (facing home after_run).txns ≡ (facing home s).txns → Taken sc home after_run at_end
       → to_come sc.pages (mine at_end) < to_come sc.pages (mine s) → Ahead sc t s
   nearer same taken less =
@@ -270,18 +270,18 @@ module _ (sc : Scenario) (ok : IsScenario sc) (t : ℕ) (s : State) (x : Lone sc
       Nearer (lone_on sc t s at_end txns taken.from x) txn
       (subst (λ m. to_come sc.pages (facing m at_end).me < to_come sc.pages (mine s)) (ap (λ (y : Txn). y.node) (sym txn)) less)
 
-  -- what is to come at the end of a round, by how many low keys there are
+  -- what is to come after the round
   then_settled : (many : ℕ) → Taken sc home after_run at_end → length (mine after_run).lows ≡ many
       → to_come sc.pages (mine at_end) ≡ missing (mine at_end).pages many + (sc.pages - many)
   then_settled many taken long =
       settled sc.pages many (mine at_end) (none_waits home at_end (known sc ok at_end taken.from) taken.links) (ap length taken.gains.lows ∙ long)
 
-  -- where t waits, the pages that were here are here still
+  -- if t waits, its node keeps its pages
   still_here : Waits (facing home s) (facing home after_run) → Taken sc home after_run at_end → (p : ℕ) → owns (mine s).pages p ≡ true
       → owns (mine at_end).pages p ≡ true
   still_here waits taken p own = taken.gains.kept p (subst (λ xs. owns xs p ≡ true) (sym waits.pages) own)
 
-  -- where it waits for `dual`
+  -- t waits for `dual`
   dual_nearer : is_waiting (mine s).mode ≡ true → Waits (facing home s) (facing home after_run) → Ahead sc t s
   dual_nearer waiting waits =
       let me = mine s in
@@ -293,7 +293,7 @@ module _ (sc : Scenario) (ok : IsScenario sc) (t : ℕ) (s : State) (x : Lone sc
       ap (λ b. (if b then 1 else 0) + missing me.pages many + (sc.pages - many)) waiting in
       nearer waits.txns taken (omega (arith, e, a, b))
 
-  -- where it waits for a page
+  -- t waits for a page
   page_nearer : (p : ℕ) → may_pull (mine s).mode ≡ true → owns (mine s).pages p ≡ false → has (mine after_run).asked p ≡ true
       → Waits (facing home s) (facing home after_run) → Ahead sc t s
   page_nearer p pulls_on gone asked waits =
@@ -308,7 +308,7 @@ module _ (sc : Scenario) (ok : IsScenario sc) (t : ℕ) (s : State) (x : Lone sc
       let b = at_least sc.pages me in
       nearer waits.txns taken (omega (arith, e, a, b))
 
-  -- where it cuts a page
+  -- t splits a page
   cut_nearer : Cuts sc (facing home s) (facing home after_run) → Ahead sc t s
   cut_nearer cuts =
       let me = mine s in
@@ -322,7 +322,7 @@ module _ (sc : Scenario) (ok : IsScenario sc) (t : ℕ) (s : State) (x : Lone sc
       let room = cuts.room in
       nearer cuts.txns taken (omega (arith, e, a, none, b, room))
 
-  -- by what its run brings
+  -- in each case
   ahead : Ahead sc t s
   ahead = elim (run_comes sc ok t s x) [
     | On on ↦ got_on on
@@ -331,7 +331,7 @@ module _ (sc : Scenario) (ok : IsScenario sc) (t : ℕ) (s : State) (x : Lone sc
     | Cut cuts ↦ cut_nearer cuts
   ]
 
--- t gets on in one more round than there are to come
+-- t gets on in at most one round more than are to come
 gets_on_in : (sc : Scenario) → IsScenario sc → (t d : ℕ) (s : State) → Lone sc t s → to_come_for sc t s ≤ d
     → (k : ℕ) × (k ≤ d + 1) × OnIn sc t s k
 gets_on_in sc ok t zero s x few =
@@ -351,9 +351,9 @@ gets_on_in sc ok t (suc d) s x few =
 
 -- ---- the whole
 
--- the transactions but one
+-- the transactions but t
 module _ (t : ℕ) (s : State) (active : is_active (txn_of s t).status ≡ true) where
-  -- those of the state, where t has not begun
+  -- those of the state, with one in t's place that has not begun
   abbrev others : List Txn
   others = slice_set s.txns t nobody
 
@@ -374,7 +374,7 @@ module _ (t : ℕ) (s : State) (active : is_active (txn_of s t).status ≡ true)
     | inr far ↦ ap (λ (x : Txn). is_active x.status) (sym (others_same u far)) ∙ h
   ]
 
--- once those are killed the others have ended, and t is as it was
+-- once the others are killed
 module _ (sc : Scenario) (ok : IsScenario sc) (t : ℕ) (s : State) (f : From sc s) (active : is_active (txn_of s t).status ≡ true) where
   -- the state after the kills
   abbrev spared : State
@@ -411,7 +411,7 @@ module _ (sc : Scenario) (ok : IsScenario sc) (t : ℕ) (s : State) (f : From sc
     active = ap (λ (y : Txn). is_active y.status) t_same ∙ active;
   }
 
--- the law: nobody has to wait for ever
+-- the law: no transaction has to wait forever
 pub gets_on : (sc : Scenario) → IsScenario sc → (cs : List Choice) (t : ℕ) → let s = play sc (opening sc) cs in is_active (txn_of s t).status ≡ true → GetsOn sc s t
 gets_on sc ok cs t active =
     let s = play sc (opening sc) cs in

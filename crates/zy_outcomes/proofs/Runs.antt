@@ -61,11 +61,11 @@ pub record Waits (v w : View) : Type 0 where
   pub lows : w.me.lows ≡ v.me.lows
   pub pages : w.me.pages ≡ v.me.pages
 
--- where nothing changes t waits
+-- it waits where nothing changes
 waits_here : (v : View) → Waits v v
 waits_here v = record { txns = refl; mode = refl; lows = refl; pages = refl }
 
--- t cuts a page: its node has one page more, and no transaction changed
+-- t splits a page: its node has one page more, and no transaction changed
 pub record Cuts (sc : Scenario) (v w : View) : Type 0 where
   pub txns : w.txns ≡ v.txns
   pub normal : may_split v.me.mode ≡ true
@@ -75,7 +75,7 @@ pub record Cuts (sc : Scenario) (v w : View) : Type 0 where
   pub new : owns w.me.pages (length v.me.lows) ≡ true
   pub kept : (p : ℕ) → owns v.me.pages p ≡ true → owns w.me.pages p ≡ true
 
--- what a run of t brings, where it aborts, cuts a page, or waits for a page or for `dual`
+-- what a run of t brings, if it aborts, splits a page, or waits for a page or for `dual`
 abbrev pub Brings : Scenario → ℕ → Outcome → View → View → Type 0
 Brings sc t (outcome.Aborted y) v w = (txn_at w t).status ≡ Aborted y
 Brings sc t (outcome.Split p q b) v w = Cuts sc v w

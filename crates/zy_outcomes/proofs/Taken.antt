@@ -1,4 +1,4 @@
--- Where a transaction alone is active, at a node at which it may have to wait, all messages can be taken, and what that leaves there.
+-- If the only active transaction is at a node where it may have to wait, all messages can be taken; and what the node has then.
 use Rattle.std.proofs.Common.{◌≡◌, ℕ, ◌≤◌, List, [], ◌∷◌, true, false, refl, sym, ap, ◌∙◌, subst, inl, inr, arith, zero, suc}
 use Rattle.std.specs.Prelude.{◌⊎◌, Bool, Option, Some, None, slice_get}
 use Rattle.std.proofs.lemmas.Bool.{cases_Bool, cases_eq, eq-eqb, false≢true, or_left, or_right}
@@ -45,7 +45,7 @@ use Rattle.zy_outcomes.specs.Reasons.{IsAlone}
 
 -- ---- one take
 
--- a transaction at a node in this mode may have to wait, or to cut a page
+-- a transaction at a node in this mode may have to wait, or to split a page
 abbrev pub may_wait : NodeMode → Bool
 may_wait Normal = true
 may_wait DInit = true
@@ -53,18 +53,18 @@ may_wait DDual = true
 may_wait DFinish = true
 may_wait m = false
 
--- a node where it may, and the node later: it has its pages still, and what it asked for has come or is asked for still
+-- such a node, and the node later: it is one still, it has kept its pages, and each page that it asked for has come or is still asked for
 pub record Gains (x y : NodeState) : Type 0 where
   pub waits : may_wait y.mode ≡ true
   pub lows : y.lows ≡ x.lows
   pub kept : (p : ℕ) → owns x.pages p ≡ true → owns y.pages p ≡ true
   pub asked : (p : ℕ) → has x.asked p ≡ true → (has y.asked p ≡ true) ⊎ (owns y.pages p ≡ true)
 
--- nothing changes
+-- a node that does not change gains nothing
 gains_none : (x : NodeState) → may_wait x.mode ≡ true → Gains x x
 gains_none x h = record { waits = h; lows = refl; kept = λ p own. own; asked = λ p asked. inl asked }
 
--- one after the other
+-- gains add up
 gains_on : (x y z : NodeState) → Gains x y → Gains y z → Gains x z
 gains_on x y z a b = record {
   waits = b.waits;
@@ -73,7 +73,7 @@ gains_on x y z a b = record {
   asked = λ p h. elim (a.asked p h) [ inl asked ↦ b.asked p asked | inr own ↦ inr (b.kept p own) ];
 }
 
--- a page comes
+-- a page that comes is gained
 gains_page : (leaf : Leaf) (x : NodeState) → may_wait x.mode ≡ true → Gains x (with_arrived leaf x)
 gains_page leaf x h = record {
   waits = h;
@@ -90,7 +90,7 @@ abbrev StaysSo : MessageLine → Type 0
 StaysSo Stray = Unit {0}
 StaysSo (Turns to sent) = may_wait to ≡ true
 
--- it is, by each line of the mode table
+-- it is so by each line of the mode table
 stays_so : (m : NodeMode) (k : Kind) (all : Bool) → may_wait m ≡ true → StaysSo (on_message m k all)
 stays_so Empty k all h = absurd (false≢true h)
 stays_so SInit k all h = absurd (false≢true h)
@@ -109,7 +109,7 @@ no_wire : (m : NodeMode) (all : Bool) → may_wait m ≡ true → on_message m k
 no_wire Empty all h = absurd (false≢true h)
 no_wire m all h = refl
 
--- nobody pulls from it
+-- no page is pulled from it
 no_pull : (m : NodeMode) (all : Bool) → may_wait m ≡ true → on_message m kind.Pull all ≡ Stray
 no_pull SDual all h = absurd (false≢true h)
 no_pull SFinish all h = absurd (false≢true h)
@@ -129,12 +129,12 @@ module _ (v : View) (h : may_wait v.me.mode ≡ true) where
   line_gains m ms Stray so g = gains_none v.me h
   line_gains m ms (Turns to sent) so g = record { waits = so; lows = g.lows; kept = g.kept; asked = g.asked }
 
-  -- by that of one that is
+  -- by the line of a message that is stray
   stray_gains : (m : Message) (ms : List Message) (y : MessageLine) → y ≡ Stray → Gains v.me (arrival_step y m v (rest v ms)).after.me
   unfolding arrival_step
   stray_gains m ms y e = subst (λ z. Gains v.me (arrival_step z m v (rest v ms)).after.me) (sym e) (gains_none v.me h)
 
-  -- by that of a pull
+  -- by the line of a pull
   pull_gains : (sc : Scenario) (p : ℕ) (ms : List Message) (y : MessageLine) → y ≡ Stray → Gains v.me (pull_step sc p y v (rest v ms)).after.me
   unfolding pull_step
   pull_gains sc p ms y e = subst (λ z. Gains v.me (pull_step sc p z v (rest v ms)).after.me) (sym e) (gains_none v.me h)

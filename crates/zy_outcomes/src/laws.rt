@@ -115,9 +115,9 @@ pub fn alone_waits_for_no_lock()
         → ((step sc (Run n t) s).outcome ≡ outcome.Waits p → ⊥) × ((step sc (Take n) s).outcome ≡ outcome.Held p → (txn_of s t).node ≡ n) }
 {}
 
-/// Nobody has to wait for ever. From every state, for each active transaction: once the others are killed, at most pages + 2
-/// rounds, in which it runs and then all messages are taken, bring it on: it has done more instructions, of which a commit
-/// is one, or has aborted, and not by a kill. It is not said that anybody makes these choices.
+/// No transaction has to wait forever. Once the others are killed, an active transaction gets on in at most pages + 2
+/// rounds: it does more instructions, of which a commit is one, or aborts, and not by a kill. In a round it runs once, and
+/// then messages are taken while there are any, at most `enough` of them. It is not said that anybody makes these choices.
 pub fn gets_on()
     ensures { (sc : Scenario) → IsScenario sc → (choices : List AChoice) (t : ℕ)
         → let s = play sc (opening sc) choices in is_active (txn_of s t).status ≡ true → GetsOn sc s t }
