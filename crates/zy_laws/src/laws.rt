@@ -36,7 +36,8 @@ pub fn safe_counts()
         → Safe sc (length choices) (play sc (opening sc) choices) }
 {}
 
-/// A transaction that runs finds room for its rows at its commit.
+/// The rows of each page at a node, with the new ones that an active transaction of the node has on it, are at most `cap`;
+/// so its commit finds room there.
 pub fn room_at_commit()
     ensures { (sc : Scenario) → IsScenario sc → (choices : List AChoice)
         → HasRoomAtCommit sc (play sc (opening sc) choices) }
@@ -53,7 +54,7 @@ pub fn one_owner()
     ensures { (sc : Scenario) (choices : List AChoice) → OneOwner (play sc (opening sc) choices) }
 {}
 
-/// No message ever comes to a node whose mode does not know it.
+/// No outcome is `stray`: no node takes a message that its mode does not know.
 pub fn never_stray()
     ensures { (sc : Scenario) (choices : List AChoice) (choice : AChoice)
         → is_stray (step sc choice (play sc (opening sc) choices)).outcome ≡ false }
@@ -204,8 +205,8 @@ pub fn active_views()
         → IsOnLoneRun (program_of sc t) (rows_after sc (commits_before sc choices t)) (txns_after sc choices n t) }
 {}
 
-/// Places keep to real time: if transaction u has not begun after n of the choices, its place is not before the place that
-/// t has by what it had seen until then.
+/// Places keep to real time: in any order of commits, if transaction u has not begun after n of the choices, no place of
+/// it is before a place that t has by what it had seen until then.
 pub fn places_in_time()
     ensures { (sc : Scenario) (choices : List AChoice) (order : List CommitRecord) (n t u : ℕ)
         → (p : HasPlace sc (take n choices) t order) → (q : HasPlace sc choices u order)
