@@ -1,4 +1,4 @@
--- Once each active transaction is killed, none is active.
+-- Kills of active transactions: these end, and every other is as it was; once each active one is killed, none is active.
 use Rattle.std.proofs.Common.{List, [], ap, arith, false, inl, inr, refl, suc, subst, sym, true, zero, ℕ, ◌+◌, ◌∙◌, ◌∷◌, ◌≡◌}
 use Rattle.std.specs.Prelude.{Bool, slice_get, ◌++◌}
 use Rattle.std.proofs.lemmas.Bool.{cases_Bool, cond_both, false≢true}
