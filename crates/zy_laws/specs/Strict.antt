@@ -1,4 +1,4 @@
--- Strict serializability, with all that the transactions have seen.
+-- Strict serializability, with what each transaction has seen while it was active.
 use Rattle.std.specs.Prelude.{◌≡◌, ℕ, List, take, true}
 use Rattle.std.specs.FinMap.{empty}
 use Rattle.zy_isa.specs.Scenario.{Scenario}
@@ -10,8 +10,8 @@ use Rattle.zy_laws.specs.RealTime.{IsStable, KeepsRealTime, txns_after}
 use Rattle.zy_laws.specs.SourceFirst.{SerialIn, migration_order}
 use Rattle.zy_laws.specs.Views.{AllEnd, AllSeen, HasPlace}
 
--- opacity: whoever is active after some of the choices, even if it aborts later, has a place in the migration order of
--- all, by what it has seen until then
+-- opacity's condition on each transaction (no order of all transactions is given): whoever is active after some of the
+-- choices, even if it aborts later, has a place in the migration order of all, by what it has seen until then
 abbrev pub AllPlaced : Scenario → List Choice → Type 0
 AllPlaced sc choices = (n t : ℕ) → is_active (txns_after sc choices n t).status ≡ true
     → HasPlace sc (take n choices) t (migration_order sc choices)
@@ -22,7 +22,7 @@ pub record StrictlySerializable (sc : Scenario) (choices : List Choice) : Type 0
   pub serial : SerialIn (migration_order sc choices) sc (play sc (opening sc) choices)
   -- each of these lone runs ends by its commit
   pub ended : AllEnd sc (laid sc.rows empty) (migration_order sc choices)
-  -- view equivalence: each committed transaction was on its lone run at each point at which it was active
+  -- view equivalence, by values: each committed transaction was on its lone run at each point at which it was active
   pub seen : (n : ℕ) → AllSeen sc (txns_after sc choices n) (laid sc.rows empty) (migration_order sc choices)
   pub placed : AllPlaced sc choices
   pub real_time : KeepsRealTime sc choices

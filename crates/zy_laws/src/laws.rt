@@ -36,7 +36,8 @@ pub fn safe_counts()
         → Safe sc (length choices) (play sc (opening sc) choices) }
 {}
 
-/// A transaction that runs finds room for its rows at its commit.
+/// The rows of each page at a node, with the new ones that an active transaction of the node has on it, are at most `cap`;
+/// so its commit finds room there.
 pub fn room_at_commit()
     ensures { (sc : Scenario) → IsScenario sc → (choices : List AChoice)
         → HasRoomAtCommit sc (play sc (opening sc) choices) }
@@ -53,7 +54,7 @@ pub fn one_owner()
     ensures { (sc : Scenario) (choices : List AChoice) → OneOwner (play sc (opening sc) choices) }
 {}
 
-/// No message ever comes to a node whose mode does not know it.
+/// No outcome is `stray`: no node takes a message that its mode does not know.
 pub fn never_stray()
     ensures { (sc : Scenario) (choices : List AChoice) (choice : AChoice)
         → is_stray (step sc choice (play sc (opening sc) choices)).outcome ≡ false }
@@ -159,7 +160,7 @@ pub fn value_at_page()
         → ValuesAtPages (play sc (opening sc) choices) }
 {}
 
-/// Who holds a page's exclusive lock is the only one that holds the page.
+/// An exclusive lock is alone on its page, among its node's locks.
 pub fn exclusive_alone()
     ensures { (sc : Scenario) → IsScenario sc → (choices : List AChoice)
         → ExclusiveAlone (play sc (opening sc) choices) }
@@ -185,16 +186,18 @@ pub fn serializable()
 {}
 
 /// Every run is strictly serializable, under both rules, in the migration order: of each migration first all that
-/// committed at its source, then all that committed at its destination, each in commit order. Each lone run in this order
-/// ends by its own commit, and each read of a committed transaction gave what it gives in the lone run. An aborted
-/// transaction has a place in the order, too (opacity): it never saw anything that a serial run would not have shown it. A
-/// transaction that commits before another begins precedes it, and those that have committed never change their order.
+/// committed at its source, then all that committed at its destination, each in commit order. Database and registers are
+/// those of the committed programs, run one by one in this order. Each of these lone runs ends by its commit, and each
+/// committed transaction was on its lone run at each point at which it was active (view equivalence, by values). A
+/// transaction that aborts was on its lone run, too, from the rows that a prefix of the order produces (opacity's
+/// condition on each transaction; no order of all transactions is given). A transaction that commits before another begins
+/// precedes it, and those that have committed never change their order.
 pub fn strictly_serializable()
     ensures { (sc : Scenario) → IsScenario sc → (choices : List AChoice) → StrictlySerializable sc choices }
 {}
 
 /// A transaction that is active was, now and at each earlier point at which it was active, on its lone run from the rows
-/// that a front of the migration order of this moment leaves. At a source this front has the commits before the migration
+/// that a prefix of the current migration order produces. At a source this prefix has the commits before the migration
 /// and those at the source; elsewhere it has all.
 pub fn active_views()
     ensures { (sc : Scenario) → IsScenario sc → (choices : List AChoice) (n t : ℕ)
@@ -202,8 +205,8 @@ pub fn active_views()
         → IsOnLoneRun (program_of sc t) (rows_after sc (commits_before sc choices t)) (txns_after sc choices n t) }
 {}
 
-/// Places keep to real time: if transaction u has not begun after n of the choices, its place is not before the place that
-/// t has by what it had seen until then.
+/// Places keep to real time: in any order of commits, if transaction u has not begun after n of the choices, no place of
+/// it is before a place that t has by what it had seen until then.
 pub fn places_in_time()
     ensures { (sc : Scenario) (choices : List AChoice) (order : List CommitRecord) (n t u : ℕ)
         → (p : HasPlace sc (take n choices) t order) → (q : HasPlace sc choices u order)
@@ -222,8 +225,8 @@ pub fn node_order()
         → let s = play sc (opening sc) choices in at_node n s (migration_order sc choices) ≡ commits_at n s }
 {}
 
-/// In version 1, under both rules, the same holds of the order that has first all that committed at A and then all that
-/// committed at B, each in commit order. The state alone gives this order.
+/// In version 1, under both rules, database and registers are those of the committed programs, run one by one: first all
+/// that committed at A and then all that committed at B, each in commit order. The state alone gives this order.
 pub fn a_first()
     ensures { (sc : Scenario) → IsScenario sc → sc.version ≡ One → (choices : List AChoice)
         → let s = play sc (opening sc) choices in SerialIn (commits_at A s ++ commits_at B s) sc s }

@@ -20,7 +20,7 @@ use Rattle.zy_table.specs.Play.{move, opening, play, side_of, step}
 use Rattle.zy_table.specs.State.{Move, State, Txn, View, facing}
 use Rattle.zy_laws.proofs.counts.SafeCounts.{safe}
 use Rattle.zy_laws.proofs.owner.OneOwner.{play_inv}
-use Rattle.zy_laws.proofs.owner.Phases.{Is, Stage, Resting, Wire_sent, Ready_sent, Dual_sent, Both_sent, In_dual, Finish_sent, In_finish, Done_sent}
+use Rattle.zy_laws.proofs.owner.Phases.{Is, Stage, Resting, Wire_sent, Ready_sent}
 use Rattle.zy_laws.proofs.owner.Phases.{source_mode, destination_mode}
 use Rattle.zy_laws.proofs.owner.Roles.{Roles, Source, Destination}
 use Rattle.zy_laws.proofs.walk.ModeLines.{starts_at_a, starts_from}
@@ -39,34 +39,21 @@ record Home (a b : NodeMode) : Type 0 where
   busy : is_idle (mode_of home a b) ≡ false
   keeps : is_sending (mode_of home a b) ≡ false
 
--- at each stage of a migration from A
-home_from_a : (g : Stage) → Home (source_mode g) (destination_mode g)
-home_from_a Resting = record { home = A; is = refl; busy = refl; keeps = refl }
-home_from_a Wire_sent = record { home = A; is = refl; busy = refl; keeps = refl }
-home_from_a Ready_sent = record { home = A; is = refl; busy = refl; keeps = refl }
-home_from_a Dual_sent = record { home = B; is = refl; busy = refl; keeps = refl }
-home_from_a Both_sent = record { home = B; is = refl; busy = refl; keeps = refl }
-home_from_a In_dual = record { home = B; is = refl; busy = refl; keeps = refl }
-home_from_a Finish_sent = record { home = B; is = refl; busy = refl; keeps = refl }
-home_from_a In_finish = record { home = B; is = refl; busy = refl; keeps = refl }
-home_from_a Done_sent = record { home = B; is = refl; busy = refl; keeps = refl }
-
--- at each stage of a migration from B
-home_from_b : (g : Stage) → Home (destination_mode g) (source_mode g)
-home_from_b Resting = record { home = B; is = refl; busy = refl; keeps = refl }
-home_from_b Wire_sent = record { home = B; is = refl; busy = refl; keeps = refl }
-home_from_b Ready_sent = record { home = B; is = refl; busy = refl; keeps = refl }
-home_from_b Dual_sent = record { home = A; is = refl; busy = refl; keeps = refl }
-home_from_b Both_sent = record { home = A; is = refl; busy = refl; keeps = refl }
-home_from_b In_dual = record { home = A; is = refl; busy = refl; keeps = refl }
-home_from_b Finish_sent = record { home = A; is = refl; busy = refl; keeps = refl }
-home_from_b In_finish = record { home = A; is = refl; busy = refl; keeps = refl }
-home_from_b Done_sent = record { home = A; is = refl; busy = refl; keeps = refl }
+-- at each stage of a migration from n
+home_from : (n : Node) (g : Stage) → Home (mode_of n (source_mode g) (destination_mode g)) (mode_of n (destination_mode g) (source_mode g))
+home_from A Resting = record { home = A; is = refl; busy = refl; keeps = refl }
+home_from A Wire_sent = record { home = A; is = refl; busy = refl; keeps = refl }
+home_from A Ready_sent = record { home = A; is = refl; busy = refl; keeps = refl }
+home_from A g = record { home = B; is = refl; busy = refl; keeps = refl }
+home_from B Resting = record { home = B; is = refl; busy = refl; keeps = refl }
+home_from B Wire_sent = record { home = B; is = refl; busy = refl; keeps = refl }
+home_from B Ready_sent = record { home = B; is = refl; busy = refl; keeps = refl }
+home_from B g = record { home = A; is = refl; busy = refl; keeps = refl }
 
 -- whichever node is the source
 home_by : (v : View) → Roles v → Home v.me.mode v.them.mode
-home_by v (Source (Is g at)) = subst (λ a. Home a v.them.mode) (sym at.source) (subst (Home (source_mode g)) (sym at.destination) (home_from_a g))
-home_by v (Destination (Is g at)) = subst (λ a. Home a v.them.mode) (sym at.destination) (subst (Home (destination_mode g)) (sym at.source) (home_from_b g))
+home_by v (Source (Is g at)) = subst (λ a. Home a v.them.mode) (sym at.source) (subst (Home (source_mode g)) (sym at.destination) (home_from A g))
+home_by v (Destination (Is g at)) = subst (λ a. Home a v.them.mode) (sym at.destination) (subst (Home (destination_mode g)) (sym at.source) (home_from B g))
 
 -- the line of a begin that acts
 begin_is : (t : ℕ) (v : View) (h : Node) → is_new (txn_at v t).status ≡ true → home_of v.me.mode v.them.mode ≡ Some h

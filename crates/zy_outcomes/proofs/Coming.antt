@@ -1,6 +1,6 @@
 -- Each page that a node asked for is on its way to it.
 use Rattle.std.proofs.Common.{◌≡◌, ℕ, ◌+◌, ◌≤◌, ◌<◌, List, [], ◌∷◌, ◌++◌, length, true, false, refl, sym, ap, ◌∙◌, subst, inl, inr, arith}
-use Rattle.std.specs.Prelude.{◌⊎◌, ◌==◌, ◌||◌, if◌then◌else◌, nat_le}
+use Rattle.std.specs.Prelude.{◌⊎◌, ◌==◌, if◌then◌else◌, nat_le}
 use Rattle.std.proofs.lemmas.Bool.{cases_eq, cond_both, eq-eqb, eqb-true, false≢true, or_cases, or_left, or_right}
 use Rattle.std.proofs.lemmas.Bool.Decides.{nat_tests}
 use Rattle.zy_isa.specs.Scenario.{IsScenario, Scenario}
@@ -8,11 +8,10 @@ use Rattle.zy_isa.specs.declared.choice.Choice.{Choice}
 use Rattle.zy_isa.specs.declared.node.Node.{Node}
 use Rattle.zy_isa.specs.declared.node.Node.TheVariants.{A, B}
 use Rattle.zy_model.proofs.PageOf.{page_of-within}
-use Rattle.zy_model.specs.Families.{is_idle, is_sending, is_source}
+use Rattle.zy_model.specs.Families.{is_source}
 use Rattle.zy_model.specs.Messages.{Wire, Ready, Dual, Pull, Page, Finish, Done}
 use Rattle.zy_model.specs.Table.{may_pull}
 use Rattle.zy_model.specs.Wireframe.{page_of}
-use Rattle.zy_model.specs.declared.mode.NodeMode.{NodeMode}
 use Rattle.zy_table.proofs.PageLists.{owns-lowered, owns-with_page}
 use Rattle.zy_table.proofs.RangeWalk.{has-put}
 use Rattle.zy_table.proofs.RisingNumbers.{has-dropped}
@@ -23,25 +22,24 @@ use Rattle.zy_table.specs.Numbers.{drop_number, has}
 use Rattle.zy_table.specs.Pages.{leaf_at, owns}
 use Rattle.zy_table.specs.Play.{move, opening, play, side_of, step}
 use Rattle.zy_table.specs.State.{Leaf, Message, NodeState, State, View, facing, seen_from}
-use Rattle.zy_table.specs.Take.{all_here}
 use Rattle.zy_table.specs.declared.outcome.Outcome.{Outcome}
 use Rattle.zy_laws.specs.OneOwner.{times}
 use Rattle.zy_laws.proofs.locks.Locking.{Kept}
-use Rattle.zy_laws.proofs.locks.Reached.{Reached, kept_from, lows_then, opening_reached, step_kept}
-use Rattle.zy_laws.proofs.order.ListsInOrder.{Tidy, opening_tidy, step_tidy}
-use Rattle.zy_laws.proofs.owner.MovingPages.{all_below-owns, leaf_at-number, owns-sent_post, sent_bare}
+use Rattle.zy_laws.proofs.locks.Reached.{kept_from}
+use Rattle.zy_laws.proofs.owner.MovingPages.{leaf_at-number, owns-sent_post, sent_bare}
 use Rattle.zy_laws.proofs.owner.PageCounts.{owns_from, times-sent_leaves, times_sent}
 use Rattle.zy_laws.proofs.owner.Phases.{Phase, Is, AllPages, AllPulls, DualThen, PagesAndFinish, Resting, Wire_sent, Ready_sent, Dual_sent, Both_sent}
 use Rattle.zy_laws.proofs.owner.Phases.{In_dual, Finish_sent, In_finish, Done_sent}
 use Rattle.zy_laws.proofs.owner.PhaseSteps.{source_of, taker_of}
 use Rattle.zy_laws.proofs.owner.Roles.{Inv, turned, turned_inv}
 use Rattle.zy_laws.proofs.places.Installing.{owns-installed}
-use Rattle.zy_laws.proofs.places.Opening.{laid_out}
+use Rattle.zy_laws.proofs.travel.Between.{Known, arrived_away, none_asked, opening_known, pulls_busy, sends_none, step_known}
 use Rattle.zy_laws.proofs.walk.Events.{Told, Asks, Commits, Event, Finishes, Gives, GotAll, GotDone, GotDual, GotFinish, GotLast, GotPage}
 use Rattle.zy_laws.proofs.walk.Events.{GotReady, GotWire, IsStale, Pushes, Splits, Starts, step_happens}
 use Rattle.zy_laws.proofs.walk.Kinds.{in_place_of}
-use Rattle.zy_laws.proofs.walk.ModeLines.{pulls_in, pulls_taker, sends_in, sends_source, splits_in_normal}
+use Rattle.zy_laws.proofs.walk.ModeLines.{pulls_taker, sends_source, splits_in_normal}
 use Rattle.zy_laws.proofs.walk.PlayPush.{play-keeps-with}
+use Rattle.zy_laws.proofs.way_out.NoDeadEnd.{not_counted}
 use Rattle.zy_outcomes.proofs.Runs.{has_put_new}
 use Rattle.zy_outcomes.proofs.Steps.{Stale, step_told}
 use Rattle.zy_outcomes.specs.Coming.{OnItsWay, pull_in, pulls}
@@ -93,13 +91,6 @@ no_page_pulls p [] h = refl
 no_page_pulls p (Pull q ∷ ms) h = let k = no_page_pulls p ms h in omega (arith, k)
 no_page_pulls p ms h = absurd h
 
--- a page that is not owned is not counted
-no_times : (p : ℕ) (xs : List Leaf) → owns xs p ≡ false → times p xs ≡ 0
-no_times p xs gone = elim (cases_eq (times p xs) 0) [
-  | inl none ↦ none
-  | inr some ↦ absurd (false≢true (sym gone ∙ owns_from p xs (omega (arith, some))))
-]
-
 -- no page is on its way to the source of a destination that asks
 no_page_back : {src dst : NodeState} {out back : List Message} (p : ℕ) → Phase src dst out back → may_pull dst.mode ≡ true → times_sent p back ≡ 0
 no_page_back p (Is In_dual at) s = no_page_pulls p _ at.back
@@ -116,7 +107,7 @@ has_put_old k q (x ∷ xs) h =
     (λ _. elim (or_cases (x == q) (has xs q) h) [ inl e ↦ or_left _ _ e | inr e ↦ or_right _ _ (has_put_old k q xs e) ])
 
 -- a number stays where another is dropped
-has_kept : (k q : ℕ) (xs : List ℕ) → (k ≡ q → ⊥) → has xs q ≡ true → has (drop_number k xs) q ≡ true
+pub has_kept : (k q : ℕ) (xs : List ℕ) → (k ≡ q → ⊥) → has xs q ≡ true → has (drop_number k xs) q ≡ true
 has_kept k q [] far h = absurd (false≢true h)
 has_kept k q (x ∷ xs) far h =
     cond_both (x == k) (drop_number k xs) (x ∷ drop_number k xs) (λ ys. has ys q ≡ true)
@@ -243,18 +234,11 @@ module _ {x : NodeState} {out inn : List Message} (a : Way x out inn) where
         | inr own ↦ inr (pages ∙ or_right _ _ own)
       ]
 
-  -- what is asked for then is not here
-  arrived_away : (leaf : Leaf) (p : ℕ) → has (with_arrived leaf x).asked p ≡ true → (owns (with_arrived leaf x).pages p ≡ false) × (p < length x.lows)
-  arrived_away leaf p h =
-      let d = has-dropped leaf.number p x.asked h in
-      let old = a.away p d.0 in
-      (owns-with_page p leaf x.pages ∙ ap (λ b. b || owns x.pages p) d.1 ∙ old.0, old.1)
-
   -- a page comes
   arrived_way : (leaf : Leaf) (ms : List Message) → inn ≡ Page leaf ∷ ms → Way (with_arrived leaf x) out ms
   arrived_way leaf ms f = record {
     asks = λ p h. a.asks p (has-dropped leaf.number p x.asked h).0;
-    away = arrived_away leaf;
+    away = arrived_away leaf x a.away;
     coming = λ p h.
         let d = has-dropped leaf.number p x.asked h in
         elim (a.coming p d.0) [
@@ -294,14 +278,6 @@ record Ways (v : View) : Type 0 where
   mine : Way v.me v.outbox v.inbox
   theirs : Way v.them v.inbox v.outbox
 
--- a mode that sends does not ask
-sends_off : (m : NodeMode) → is_sending m ≡ true → may_pull m ≡ false
-sends_off m s = elim (sends_in m s) [ inl e ↦ ap may_pull e | inr e ↦ ap may_pull e ]
-
--- a mode that asks is not idle
-pulls_busy : (m : NodeMode) → may_pull m ≡ true → is_idle m ≡ false
-pulls_busy m s = elim (pulls_in m s) [ inl e ↦ ap is_idle e | inr e ↦ ap is_idle e ]
-
 -- a page that is asked for there, and is not here, is on its way from here
 page_sent : (v : View) (p : ℕ) → Inv v → Way v.them v.inbox v.outbox → has v.them.asked p ≡ true → owns v.me.pages p ≡ false
     → owns (sent_leaves v.outbox) p ≡ true
@@ -310,8 +286,8 @@ page_sent v p i a asked gone =
     let once = i.owned.once p in
     let back = no_page_back p (taker_of (turned v) (turned_inv v i).roles (pulls_taker v.them.mode (a.asks p asked))) (a.asks p asked) in
     let sent = times-sent_leaves p v.outbox in
-    let mine : times p v.me.pages ≡ 0 = no_times p v.me.pages gone in
-    let theirs : times p v.them.pages ≡ 0 = no_times p v.them.pages away.0 in
+    let mine : times p v.me.pages ≡ 0 = not_counted p v.me.pages gone in
+    let theirs : times p v.them.pages ≡ 0 = not_counted p v.them.pages away.0 in
     let below = away.1 in
     owns_from p (sent_leaves v.outbox) (grind (arith, nat_tests, once, back, sent, mine, theirs, below))
 
@@ -332,11 +308,6 @@ module _ (v : View) (x : Ways v) where
   -- the page that is sent is on its way
   sent_page : (q p : ℕ) → q ≡ p → owns (sent_leaves (v.outbox ++ Page (leaf_at v.me.pages q) ∷ [])) p ≡ true
   sent_page q p same = owns-sent_post p v.outbox (leaf_at v.me.pages q) ∙ or_right _ _ (eq-eqb _ _ (leaf_at-number v.me.pages q ∙ same))
-
--- where all pages are here, none is asked for
-all_none : (y : NodeState) → ((p : ℕ) → has y.asked p ≡ true → (owns y.pages p ≡ false) × (p < length y.lows)) → all_here y ≡ true → (p : ℕ)
-    → has y.asked p ≡ true → ⊥
-all_none y away all p h = let k = away p h in false≢true (sym k.0 ∙ all_below-owns y.pages (length y.lows) p all k.1)
 
 -- each event keeps it at the node that acts
 my_event : (sc : Scenario) (n : Node) (o : Outcome) (v w : View) (lows : List ℕ) → Kept sc n v lows → Ways v → (e : Event sc n v w) → Told e o
@@ -364,20 +335,20 @@ my_event sc n o v w lows k x (IsStale line e) told =
     rw e (links_way x.mine _ _ (λ p. refl) (λ p h. subst (λ xs. owns (sent_leaves xs) p ≡ true) line.front h))
 my_event sc n o v w lows k x (Gives line e) told =
     let ph = source_of v k.inv.roles (sends_source v.me.mode line.sends) in
-    rw e (left_way x.mine _ _ _ (sends_off v.me.mode line.sends) refl
+    rw e (left_way x.mine _ _ _ (sends_none v.me.mode line.sends) refl
     (λ p. pulls_bare v.outbox (Page (leaf_at v.me.pages line.page)) (λ q. refl) p ∙ no_pulls_out p ph))
 my_event sc n o v w lows k x (GotPage line e) told = rw e (arrived_way x.mine line.leaf line.after line.front)
 my_event sc n o v w lows k x (GotLast line e) told =
     let y = with_arrived line.leaf v.me in
     let came = arrived_way x.mine line.leaf line.after line.front in
-    let none = all_none y came.away line.all in
+    let none = none_asked y came.away line.all in
     let post = pulls_bare v.outbox Done (λ p. refl) in
     rw e (none_way _ _ _ none (λ p. let a = post p in let b = came.once p in omega (arith, a, b))
     (λ p h. let a = post p in elim (came.pulled p (omega (arith, a, h))) [ inl asked ↦ absurd (none p asked) | inr own ↦ own ]))
 my_event sc n o v w lows k x (GotFinish line e) told =
     rw e (same_way x.mine _ _ _ (λ h. refl) refl refl (λ p. refl) (λ p. refl) (λ p h. subst (λ xs. owns (sent_leaves xs) p ≡ true) line.front h))
 my_event sc n o v w lows k x (GotAll line e) told =
-    let none = all_none v.me x.mine.away line.all in
+    let none = none_asked v.me x.mine.away line.all in
     let post = pulls_bare v.outbox Done (λ p. refl) in
     rw e (none_way _ _ _ none (λ p. let a = post p in let b = x.mine.once p in omega (arith, a, b))
     (λ p h. let a = post p in elim (x.mine.pulled p (omega (arith, a, h))) [ inl asked ↦ absurd (none p asked) | inr own ↦ own ]))
@@ -444,18 +415,6 @@ ways_to : (n : Node) (w : View) → Ways w → Ways (facing A (seen_from n w))
 ways_to A w x = x
 ways_to B w x = turned_ways w x
 
--- what else is known of every state that is reached
-record Known (sc : Scenario) (s : State) : Type 0 where
-  tidy : Tidy s
-  reached : Reached sc s
-
--- a step keeps what is known
-step_known : (sc : Scenario) → IsScenario sc → (c : Choice) (s : State) → Known sc s → Known sc (step sc c s).after
-step_known sc ok c s x = record {
-  tidy = step_tidy sc c s x.tidy;
-  reached = record { lows = lows_then sc c s x.reached.lows; kept = step_kept sc c s x.reached.lows ok.cap_least x.tidy x.reached.kept };
-}
-
 -- a step keeps it
 step_ways : (sc : Scenario) (c : Choice) (s : State) → Known sc s → Ways (facing A s) → Ways (facing A (step sc c s).after)
 unfolding step
@@ -482,8 +441,7 @@ opening_ways sc = record {
 -- it holds after every schedule
 play_ways : (sc : Scenario) → IsScenario sc → (cs : List Choice) → Ways (facing A (play sc (opening sc) cs))
 play_ways sc ok cs =
-    play-keeps-with sc (Known sc) (λ s. Ways (facing A s)) (step_known sc ok) (step_ways sc) cs (opening sc)
-    (record { tidy = opening_tidy sc ok; reached = opening_reached sc (laid_out sc ok) }) (opening_ways sc)
+    play-keeps-with sc (Known sc) (λ s. Ways (facing A s)) (step_known sc ok) (step_ways sc) cs (opening sc) (opening_known sc ok) (opening_ways sc)
 
 -- the law: each page that is asked for is on its way
 pub on_its_way : (sc : Scenario) → IsScenario sc → (cs : List Choice) (n : Node) → OnItsWay (facing n (play sc (opening sc) cs))

@@ -6,3 +6,5 @@ pub mod Limits
 pub mod LockedHere
 pub mod Coming
 pub mod RunsAlone
+pub mod Taken
+pub mod GetsOn

@@ -1,7 +1,7 @@
 -- What each line of a run tells: the reason of its outcome, what becomes of the transaction, and what is sent.
-use Rattle.std.proofs.Common.{◌∙◌, ◌≡◌, ℕ, ◌+◌, List, [], ◌∷◌, length, true, false, refl, sym, ap, subst, inl, inr, arith, length-append}
+use Rattle.std.proofs.Common.{◌∙◌, ◌≡◌, ℕ, ◌+◌, ◌<◌, List, [], ◌∷◌, length, true, false, refl, sym, ap, subst, inl, inr, arith, length-append}
 use Rattle.std.specs.Prelude.{if◌then◌else◌, ◌==◌, ◌||◌, nat_lt, nat_le, not, Some, None, Option, slice_get, slice_set, is_some}
-use Rattle.std.proofs.lemmas.Bool.{cond_both, false≢true, not-false, not-true, cases_Bool, eq-eqb, eqb-true, leb-true, or_cases, or_left, or_right}
+use Rattle.std.proofs.lemmas.Bool.{cond_both, false≢true, not-false, not-true, cases_Bool, eq-eqb, eqb-true, leb-false, leb-true, or_cases, or_left, or_right}
 use Rattle.zy_isa.specs.Limits.{max_key}
 use Rattle.zy_isa.specs.Rows.{get_row}
 use Rattle.zy_isa.specs.Scenario.{Scenario}
@@ -20,6 +20,7 @@ use Rattle.zy_model.specs.declared.lock.LockKind.TheVariants.{Shared, Exclusive}
 use Rattle.zy_model.specs.declared.mode.NodeMode.{NodeMode}
 use Rattle.zy_model.specs.declared.mode.NodeMode.TheVariants.{DInit}
 use Rattle.zy_table.proofs.AbortedLocks.{aborted-locked}
+use Rattle.zy_table.proofs.PageLists.{owns-lowered, owns-with_page}
 use Rattle.zy_table.proofs.RangeLists.{found_has, none_passes}
 use Rattle.zy_table.specs.Change.{aborted, asks, committed, cut, did, locked, quiet, shares, txn_at, txn_or}
 use Rattle.zy_table.specs.Client.{is_active}
@@ -40,7 +41,9 @@ use Rattle.zy_table.specs.declared.outcome.Outcome.{Outcome}
 use Rattle.zy_table.specs.declared.outcome.Outcome.TheVariants as outcome
 use Rattle.zy_table.specs.declared.outcome.Why.{Why}
 use Rattle.zy_table.specs.declared.outcome.Why.TheVariants as why
+use Rattle.zy_table.specs.declared.status.Status.TheVariants.{Aborted}
 use Rattle.zy_laws.proofs.walk.Events.{same_node-true}
+use Rattle.zy_laws.proofs.walk.Txns.{at_self}
 use Rattle.zy_outcomes.specs.Accounts.{IsNumbered, Says, counted, is_did, is_of_run}
 use Rattle.zy_outcomes.specs.Coming.{IsAwaited}
 use Rattle.zy_outcomes.specs.Reasons.{FindsFull, HasCause, HasReason, Next, RunsAt, Wants}
@@ -50,6 +53,36 @@ pub data Fares (t : ℕ) (o : Outcome) (v w : View) : Type 0 where
   Stays : w.txns ≡ v.txns → counted o ≡ 0 → Fares t o v w
   Goes : (y : Txn) → is_active (txn_at v t).status ≡ true → w.txns ≡ slice_set v.txns t y → y.done ≡ (txn_at v t).done + counted o
       → (is_did o ≡ false → y.regs ≡ (txn_at v t).regs) → Fares t o v w
+
+-- t waits: its node has the mode, the wireframe and the pages that it had, and no transaction changed
+pub record Waits (v w : View) : Type 0 where
+  pub txns : w.txns ≡ v.txns
+  pub mode : w.me.mode ≡ v.me.mode
+  pub lows : w.me.lows ≡ v.me.lows
+  pub pages : w.me.pages ≡ v.me.pages
+
+-- it waits where nothing changes
+waits_here : (v : View) → Waits v v
+waits_here v = record { txns = refl; mode = refl; lows = refl; pages = refl }
+
+-- t splits a page: its node has one page more, and no transaction changed
+pub record Cuts (sc : Scenario) (v w : View) : Type 0 where
+  pub txns : w.txns ≡ v.txns
+  pub normal : may_split v.me.mode ≡ true
+  pub mode : w.me.mode ≡ v.me.mode
+  pub room : length v.me.lows < sc.pages
+  pub lows : length w.me.lows ≡ length v.me.lows + 1
+  pub new : owns w.me.pages (length v.me.lows) ≡ true
+  pub kept : (p : ℕ) → owns v.me.pages p ≡ true → owns w.me.pages p ≡ true
+
+-- what a run of t brings, if it aborts, splits a page, or waits for a page or for `dual`
+abbrev pub Brings : Scenario → ℕ → Outcome → View → View → Type 0
+Brings sc t (outcome.Aborted y) v w = (txn_at w t).status ≡ Aborted y
+Brings sc t (outcome.Split p q b) v w = Cuts sc v w
+Brings sc t (outcome.Pulls p) v w = Waits v w
+Brings sc t (outcome.Awaits p) v w = Waits v w
+Brings sc t outcome.NotYet v w = Waits v w
+Brings sc t o v w = Unit {0}
 
 -- equal nodes pass the test
 pub same_node-same : (a b : Node) → a ≡ b → same_node a b ≡ true
@@ -63,7 +96,7 @@ abbrev pub HasNext : Scenario → ℕ → View → Type 0
 HasNext sc t v = (i : Instr) × (slice_get (program_of sc t) (txn_at v t).pc ≡ Some i)
 
 -- a mode in which transactions wait is DInit
-waits_in : (m : NodeMode) → is_waiting m ≡ true → m ≡ DInit
+pub waits_in : (m : NodeMode) → is_waiting m ≡ true → m ≡ DInit
 waits_in DInit h = refl
 waits_in m h = absurd (false≢true h)
 
@@ -122,13 +155,14 @@ module _ (sc : Scenario) (n : Node) (t : ℕ) where
     pub number : IsNumbered m.outcome m.after.commits
     pub inbox : m.after.inbox ≡ v.inbox
     pub awaited : IsAwaited m.outcome m.after.me
+    pub brings : Brings sc t m.outcome v m.after
     pub runs : RunsAt v t n → HasNext sc t v → is_of_run m.outcome ≡ true
 
   -- nothing changes
-  rests : (v : View) (o : Outcome) → HasReason sc n v (Run n t) o → counted o ≡ 0 → IsNumbered o v.commits → IsAwaited o v.me
+  rests : (v : View) (o : Outcome) → HasReason sc n v (Run n t) o → counted o ≡ 0 → IsNumbered o v.commits → IsAwaited o v.me → Brings sc t o v v
       → (RunsAt v t n → HasNext sc t v → is_of_run o ≡ true) → Tells v (quiet v o)
-  rests v o reason none number awaited runs =
-      record { reason = reason; fares = Stays refl none; sent = refl; number = number; inbox = refl; awaited = awaited; runs = runs }
+  rests v o reason none number awaited brings runs =
+      record { reason = reason; fares = Stays refl none; sent = refl; number = number; inbox = refl; awaited = awaited; brings = brings; runs = runs }
 
   -- t aborts
   aborts : (v : View) (y : Why) → RunsAt v t n → HasCause sc n v (Run n t) t y → Tells v (abort_step t y v)
@@ -140,6 +174,7 @@ module _ (sc : Scenario) (n : Node) (t : ℕ) where
     number = tt;
     inbox = refl;
     awaited = tt;
+    brings = ap (λ (x : Txn). x.status) (at_self v _ t _ refl at.0);
     runs = λ _ _. refl;
   }
 
@@ -161,6 +196,7 @@ module _ (sc : Scenario) (n : Node) (t : ℕ) where
     number = tt;
     inbox = front;
     awaited = tt;
+    brings = tt;
     runs = λ _ _. refl;
   }
 
@@ -174,7 +210,24 @@ module _ (sc : Scenario) (n : Node) (t : ℕ) where
       (λ s. aborts_locked v p Exclusive (why.Frozen p) at (refl, full, not-true _ s))
       (λ s. cond_both (nat_le sc.pages (length v.me.lows)) _ _ (Tells v)
       (λ most. aborts_locked v p Exclusive why.NoPage at (p, refl, full, not-false _ s, leb-true _ _ most))
-      (λ _. record { reason = tt; fares = Stays refl refl; sent = refl; number = tt; inbox = refl; awaited = tt; runs = λ _ _. refl }))
+      (λ more. record {
+        reason = tt;
+        fares = Stays refl refl;
+        sent = refl;
+        number = tt;
+        inbox = refl;
+        awaited = tt;
+        brings = record {
+          txns = refl;
+          normal = not-false _ s;
+          mode = refl;
+          room = leb-false _ _ more;
+          lows = length-append v.me.lows _;
+          new = owns-with_page (length v.me.lows) _ _ ∙ or_left _ _ (eq-eqb (length v.me.lows) _ refl);
+          kept = λ q own. owns-with_page q _ _ ∙ or_right _ _ (owns-lowered _ _ v.me.pages q ∙ own);
+        };
+        runs = λ _ _. refl;
+      }))
 
   -- an insert that has its lock
   insert_tells : (v : View) (k x : ℕ) → RunsAt v t n → Next sc t v (effect.Accesses (access.Inserts x) k)
@@ -214,7 +267,7 @@ module _ (sc : Scenario) (n : Node) (t : ℕ) where
       cond_both (not (may_pull v.me.mode)) _ _ (Tells v)
       (λ s. aborts v (why.Gone p) at (gone, inl (kind, wants, not-true _ s)))
       (λ s. cond_both (has v.me.asked p) _ _ (Tells v)
-      (λ asked. rests v (outcome.Awaits p) (t, kind, wants, gone, not-false _ s, asked) refl tt asked (λ _ _. refl))
+      (λ asked. rests v (outcome.Awaits p) (t, kind, wants, gone, not-false _ s, asked) refl tt asked (waits_here v) (λ _ _. refl))
       (λ unasked. record {
         reason = (t, kind, wants, gone, not-false _ s, unasked);
         fares = Stays refl refl;
@@ -222,6 +275,7 @@ module _ (sc : Scenario) (n : Node) (t : ℕ) where
         number = tt;
         inbox = refl;
         awaited = has_put_new p v.me.asked;
+        brings = record { txns = refl; mode = refl; lows = refl; pages = refl };
         runs = λ _ _. refl;
       }))
 
@@ -236,7 +290,7 @@ module _ (sc : Scenario) (n : Node) (t : ℕ) where
       (λ _. cond_both (not (owns v.me.pages p)) _ _ (Tells v)
       (λ gone. absent_tells v p (lock_of i) at wants (not-true _ gone))
       (λ here. cond_both (conflict v.me.locks p t (lock_of i)) _ _ (Tells v)
-      (λ taken. rests v (outcome.Waits p) (t, lock_of i, wants, not-false _ here, taken) refl tt tt (λ _ _. refl))
+      (λ taken. rests v (outcome.Waits p) (t, lock_of i, wants, not-false _ here, taken) refl tt tt tt (λ _ _. refl))
       (λ _. access_tells v i k at next)))
 
   -- a sum whose pages are here
@@ -246,7 +300,7 @@ module _ (sc : Scenario) (n : Node) (t : ℕ) where
   unfolding sum_or_waits sum_step set_step shares
   sum_waits_tells v r a b (Some p) at next e here =
       let f = found_has (λ z. conflict v.me.locks z t Shared) (range_pages v.me.lows a b) p (sym e) in
-      rests v (outcome.Waits p) (t, Shared, record { run = refl; does = effect.Sums r a b; next = next; needs = (f.0, refl) }, here p f.0, f.1) refl tt tt (λ _ _. refl)
+      rests v (outcome.Waits p) (t, Shared, record { run = refl; does = effect.Sums r a b; next = next; needs = (f.0, refl) }, here p f.0, f.1) refl tt tt tt (λ _ _. refl)
   sum_waits_tells v r a b None at next e here = goes_on v (shares t (range_pages v.me.lows a b) v) _ _ _ at refl refl refl
 
   -- a sum with keys
@@ -283,6 +337,7 @@ module _ (sc : Scenario) (n : Node) (t : ℕ) where
     number = let e = length-append v.commits (record { txn = t; done = (txn_at v t).done + 1 } ∷ []) in omega (arith, e);
     inbox = refl;
     awaited = tt;
+    brings = tt;
     runs = λ _ _. refl;
   }
 
@@ -300,7 +355,7 @@ module _ (sc : Scenario) (n : Node) (t : ℕ) where
   instr_tells : (v : View) (o : Option Instr) → RunsAt v t n → o ≡ slice_get (program_of sc t) (txn_at v t).pc
       → Tells v (instr_step sc t o (txn_at v t).regs v)
   unfolding instr_step
-  instr_tells v None at e = rests v outcome.Idle tt refl tt tt (λ _ next. let k = next.1 in cc)
+  instr_tells v None at e = rests v outcome.Idle tt refl tt tt tt (λ _ next. let k = next.1 in cc)
   instr_tells v (Some i) at e = effect_tells v (effect_of i (txn_at v t).regs) at (i, sym e, refl)
 
   -- a run
@@ -308,10 +363,10 @@ module _ (sc : Scenario) (n : Node) (t : ℕ) where
   unfolding run_step
   run_tells v =
       cond_both (not (is_active (txn_at v t).status)) _ _ (Tells v)
-      (λ off. rests v outcome.Idle tt refl tt tt (λ at _. absurd (false≢true (sym (not-true _ off) ∙ at.0))))
+      (λ off. rests v outcome.Idle tt refl tt tt tt (λ at _. absurd (false≢true (sym (not-true _ off) ∙ at.0))))
       (λ a. cond_both (not (same_node (txn_at v t).node n)) _ _ (Tells v)
-      (λ far. rests v outcome.Elsewhere tt refl tt tt (λ at _. absurd (false≢true (sym (not-true _ far) ∙ same_node-same _ _ at.1))))
+      (λ far. rests v outcome.Elsewhere tt refl tt tt tt (λ at _. absurd (false≢true (sym (not-true _ far) ∙ same_node-same _ _ at.1))))
       (λ h. let at : RunsAt v t n = (not-false _ a, same_node-true _ _ (not-false _ h)) in
       cond_both (is_waiting v.me.mode) _ _ (Tells v)
-      (λ waits. rests v outcome.NotYet (t, refl, at, waits_in v.me.mode waits) refl tt tt (λ _ _. refl))
+      (λ waits. rests v outcome.NotYet (t, refl, at, waits_in v.me.mode waits) refl tt tt (waits_here v) (λ _ _. refl))
       (λ _. instr_tells v _ at refl)))

@@ -45,7 +45,7 @@ clash_holder (x ∷ xs) p t kind h = elim (or_cases (clashes p t kind x) (confli
 ]
 
 -- who has a lock is t, which is at that node
-holder_alone : (n : Node) (s : State) (t p u : ℕ) → HoldersActive s → IsAlone s t → holds (facing n s).me.locks p u ≡ true
+pub holder_alone : (n : Node) (s : State) (t p u : ℕ) → HoldersActive s → IsAlone s t → holds (facing n s).me.locks p u ≡ true
     → (u ≡ t) × ((txn_of s t).node ≡ n)
 holder_alone n s t p u holders alone h =
     let k = holders n p u h in
@@ -53,7 +53,7 @@ holder_alone n s t p u holders alone h =
     (same, ap (λ z. (txn_of s z).node) (sym same) ∙ ap (λ (x : Txn). x.node) (sym (at_side n s u)) ∙ k.1)
 
 -- it waits for no lock
-waits_for_none : (sc : Scenario) (s : State) (t p : ℕ) (n : Node) → HoldersActive s → IsAlone s t → (step sc (Run n t) s).outcome ≡ Waits p → ⊥
+pub waits_for_none : (sc : Scenario) (s : State) (t p : ℕ) (n : Node) → HoldersActive s → IsAlone s t → (step sc (Run n t) s).outcome ≡ Waits p → ⊥
 waits_for_none sc s t p n holders alone said =
     let r = subst (HasReason sc n (facing n s) (Run n t)) said (step_reason sc (Run n t) s) in
     let mine : r.0 ≡ t = let e = r.2.run in cc in

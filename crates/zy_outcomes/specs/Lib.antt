@@ -1,4 +1,5 @@
 pub mod Accounts
 pub mod Beginnings
 pub mod Coming
+pub mod GetsOn
 pub mod Reasons

@@ -16,6 +16,7 @@ ghost use Rattle.zy_laws.specs.Journey.{is_gone};
 ghost use Rattle.zy_outcomes.specs.Accounts.{Accounts, IsNumbered, Says, is_of_run, txn_of};
 ghost use Rattle.zy_outcomes.specs.Beginnings.{Begins, MayStart};
 ghost use Rattle.zy_outcomes.specs.Coming.{IsAwaited, OnItsWay};
+ghost use Rattle.zy_outcomes.specs.GetsOn.{GetsOn};
 ghost use Rattle.zy_outcomes.specs.Reasons.{HasReason, IsAlone, Next};
 
 /// A `begin` of a new transaction always acts: there is always a node for it, which is not idle and hands over no page.
@@ -112,4 +113,12 @@ pub fn alone_waits_for_no_lock()
     ensures { (sc : Scenario) → IsScenario sc → (choices : List AChoice) (t p : ℕ) (n : Node)
         → let s = play sc (opening sc) choices in IsAlone s t
         → ((step sc (Run n t) s).outcome ≡ outcome.Waits p → ⊥) × ((step sc (Take n) s).outcome ≡ outcome.Held p → (txn_of s t).node ≡ n) }
+{}
+
+/// No transaction has to wait forever. Once the others are killed, an active transaction gets on in at most pages + 2
+/// rounds: it does more instructions, of which a commit is one, or aborts, and not by a kill. In a round it runs once, and
+/// then messages are taken while there are any, at most `enough` of them. It is not said that anybody makes these choices.
+pub fn gets_on()
+    ensures { (sc : Scenario) → IsScenario sc → (choices : List AChoice) (t : ℕ)
+        → let s = play sc (opening sc) choices in is_active (txn_of s t).status ≡ true → GetsOn sc s t }
 {}

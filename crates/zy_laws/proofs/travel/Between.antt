@@ -42,10 +42,14 @@ use Rattle.zy_laws.proofs.walk.Kinds.{in_place_of}
 
 -- ---- the pages that a node asked for
 
--- they are not there, but in its wireframe; a node that asks for none has asked for none
+-- they are not there, but in its wireframe
+abbrev pub IsAway : NodeState → Type 0
+IsAway x = (p : ℕ) → has x.asked p ≡ true → (owns x.pages p ≡ false) × (p < length x.lows)
+
+-- so it is, and a node that asks for none has asked for none
 record Asked (x : NodeState) : Type 0 where
   none : may_pull x.mode ≡ false → x.asked ≡ []
-  away : (p : ℕ) → has x.asked p ≡ true → (owns x.pages p ≡ false) × (p < length x.lows)
+  away : IsAway x
 
 -- a list of no number is empty
 has_none : (xs : List ℕ) → ((p : ℕ) → has xs p ≡ true → ⊥) → xs ≡ []
@@ -64,23 +68,26 @@ asked_none : (y : NodeState) → y.asked ≡ [] → Asked y
 asked_none y e = record { none = λ _. e; away = λ p h. absurd (false≢true (subst (λ xs. has xs p ≡ true) e h)) }
 
 -- a page comes
-arrived_away : (leaf : Leaf) (x : NodeState) → Asked x → (p : ℕ) → has (with_arrived leaf x).asked p ≡ true
-    → (owns (with_arrived leaf x).pages p ≡ false) × (p < length x.lows)
-arrived_away leaf x a p h =
+pub arrived_away : (leaf : Leaf) (x : NodeState) → IsAway x → IsAway (with_arrived leaf x)
+arrived_away leaf x away p h =
     let d = has-dropped leaf.number p x.asked h in
-    let old = a.away p d.0 in
+    let old = away p d.0 in
     (owns-with_page p leaf x.pages ∙ ap (λ b. b || owns x.pages p) d.1 ∙ old.0, old.1)
 
--- all pages are there
-asked_all : (x : NodeState) → ((p : ℕ) → has x.asked p ≡ true → (owns x.pages p ≡ false) × (p < length x.lows)) → all_here x ≡ true → x.asked ≡ []
-asked_all x away all = has_none x.asked (λ p h. let w = away p h in false≢true (sym w.0 ∙ all_below-owns x.pages (length x.lows) p all w.1))
+-- where all pages are there, none is asked for
+pub none_asked : (x : NodeState) → IsAway x → all_here x ≡ true → (p : ℕ) → has x.asked p ≡ true → ⊥
+none_asked x away all p h = let w = away p h in false≢true (sym w.0 ∙ all_below-owns x.pages (length x.lows) p all w.1)
+
+-- so the list of those is empty
+asked_all : (x : NodeState) → IsAway x → all_here x ≡ true → x.asked ≡ []
+asked_all x away all = has_none x.asked (none_asked x away all)
 
 -- a mode that sends does not ask
-sends_none : (m : NodeMode) → is_sending m ≡ true → may_pull m ≡ false
+pub sends_none : (m : NodeMode) → is_sending m ≡ true → may_pull m ≡ false
 sends_none m s = elim (sends_in m s) [ inl e ↦ ap may_pull e | inr e ↦ ap may_pull e ]
 
 -- a mode that asks is not idle
-pulls_busy : (m : NodeMode) → may_pull m ≡ true → is_idle m ≡ false
+pub pulls_busy : (m : NodeMode) → may_pull m ≡ true → is_idle m ≡ false
 pulls_busy m s = elim (pulls_in m s) [ inl e ↦ ap is_idle e | inr e ↦ ap is_idle e ]
 
 -- each event keeps it
@@ -109,8 +116,8 @@ asked_event sc n o v w lows k a (GotDual line e) told = rw e (asked_none _ (a.no
 asked_event sc n o v w lows k a (IsStale line e) told = rw e (asked_same v.me _ refl refl refl (λ p. refl) a)
 asked_event sc n o v w lows k a (Gives line e) told = rw e (asked_none _ (a.none (sends_none v.me.mode line.sends)))
 asked_event sc n o v w lows k a (GotPage line e) told =
-    rw e (record { none = λ off. absurd (false≢true (sym off ∙ line.pulls)); away = arrived_away line.leaf v.me a })
-asked_event sc n o v w lows k a (GotLast line e) told = rw e (asked_none _ (asked_all (with_arrived line.leaf v.me) (arrived_away line.leaf v.me a) line.all))
+    rw e (record { none = λ off. absurd (false≢true (sym off ∙ line.pulls)); away = arrived_away line.leaf v.me a.away })
+asked_event sc n o v w lows k a (GotLast line e) told = rw e (asked_none _ (asked_all (with_arrived line.leaf v.me) (arrived_away line.leaf v.me a.away) line.all))
 asked_event sc n o v w lows k a (GotFinish line e) told = rw e (record { none = λ off. absurd (false≢true (sym off)); away = a.away })
 asked_event sc n o v w lows k a (GotAll line e) told = rw e (asked_none _ (asked_all v.me a.away line.all))
 asked_event sc n o v w lows k a (GotDone line e) told = rw e (asked_none _ (a.none (ap may_pull line.mode)))
@@ -130,19 +137,23 @@ both_after A s w mine them all B = subst Asked (sym them) (all B)
 both_after B s w mine them all A = subst Asked (sym them) (all A)
 both_after B s w mine them all B = mine
 
--- beside what else is known of every state that is reached
-record Known (sc : Scenario) (s : State) : Type 0 where
-  tidy : Tidy s
-  reached : Reached sc s
+-- what else is known of every state that is reached
+pub record Known (sc : Scenario) (s : State) : Type 0 where
+  pub tidy : Tidy s
+  pub reached : Reached sc s
 
 -- a step keeps what is known
-step_known : (sc : Scenario) → IsScenario sc → (c : Choice) (s : State) → Known sc s → Known sc (step sc c s).after
+pub step_known : (sc : Scenario) → IsScenario sc → (c : Choice) (s : State) → Known sc s → Known sc (step sc c s).after
 step_known sc ok c s x = record {
   tidy = step_tidy sc c s x.tidy;
   reached = record { lows = lows_then sc c s x.reached.lows; kept = step_kept sc c s x.reached.lows ok.cap_least x.tidy x.reached.kept };
 }
 
--- a step keeps it at both nodes
+-- it is known at the opening
+pub opening_known : (sc : Scenario) → IsScenario sc → Known sc (opening sc)
+opening_known sc ok = record { tidy = opening_tidy sc ok; reached = opening_reached sc (laid_out sc ok) }
+
+-- a step keeps what a node asked for, at both nodes
 step_both : (sc : Scenario) (c : Choice) (s : State) → Known sc s → Both s → Both (step sc c s).after
 unfolding step
 step_both sc c s x all =
@@ -163,8 +174,7 @@ opening_both sc B = asked_none _ refl
 -- it holds at both nodes after every schedule
 play_both : (sc : Scenario) → IsScenario sc → (cs : List Choice) → Both (play sc (opening sc) cs)
 play_both sc ok cs =
-    play-keeps-with sc (Known sc) Both (step_known sc ok) (λ c s x b. step_both sc c s x b) cs (opening sc)
-    (record { tidy = opening_tidy sc ok; reached = opening_reached sc (laid_out sc ok) }) (opening_both sc)
+    play-keeps-with sc (Known sc) Both (step_known sc ok) (λ c s x b. step_both sc c s x b) cs (opening sc) (opening_known sc ok) (opening_both sc)
 
 -- ---- the whole
 

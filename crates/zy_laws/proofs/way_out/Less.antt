@@ -11,6 +11,7 @@ use Rattle.zy_model.specs.Families.{is_sending, is_source}
 use Rattle.zy_model.specs.Locks.{is_locked}
 use Rattle.zy_model.specs.Messages.{Wire, Ready, Dual, Pull, Page, Finish, Done}
 use Rattle.zy_model.specs.Table.{may_pull, may_push, on_finish}
+use Rattle.zy_model.specs.declared.kind.Kind.{Kind}
 use Rattle.zy_model.specs.declared.kind.Kind.TheVariants as kind
 use Rattle.zy_model.specs.declared.mode.NodeMode.{NodeMode}
 use Rattle.zy_model.specs.declared.mode.NodeMode.TheVariants.{Empty, Normal, SInit, SDual, SFinish, DInit, DDual, DFinish}
@@ -23,7 +24,7 @@ use Rattle.zy_table.specs.Pages.{numbers, owns, with_page, without}
 use Rattle.zy_table.specs.Play.{move, side_of, step}
 use Rattle.zy_table.specs.Push.{active_from, finish_if, finish_step, push_if, push_step}
 use Rattle.zy_table.specs.State.{Leaf, Message, Move, NodeState, State, View, facing, seen_from}
-use Rattle.zy_table.specs.Take.{all_here, arrival_step, front_step, is_held, message_step, mode_line, pull_step, take_step, with_brought}
+use Rattle.zy_table.specs.Take.{all_here, arrival_step, front_step, is_held, message_step, mode_line, pull_step, take_step, with_answer, with_brought}
 use Rattle.zy_table.proofs.PageLists.{least-owns}
 use Rattle.zy_laws.specs.WayOut.{is_migration_step}
 use Rattle.zy_laws.proofs.walk.Conditions.{Front, rest}
@@ -95,11 +96,23 @@ leaves_less p v s own =
     let fewer = sends_cost v.me.mode s _ _ (without_less p v.me.pages own) in
     record { txns = refl; commits = refl; them = refl; source = (λ on. inl on); less = omega (arith, fewer, length-append {A = Message}) }
 
--- what a take of message m does: less is left; or nothing changes, since the mode does not know m, or the page that m asks for is locked
+-- what a take of message m does: less is left; or nothing changes, since the mode does not know m, or sends, and the page that m asks for is locked
 pub data Goes (v : View) (m : Message) (w : View) : Type 0 where
   Acts : Lowers v w → Goes v m w
   Strays : w ≡ v → mode_line m v ≡ Stray → Goes v m w
-  IsHeld : w ≡ v → (p : ℕ) → is_locked v.me.locks p ≡ true → Goes v m w
+  IsHeld : w ≡ v → (p : ℕ) → is_sending v.me.mode ≡ true → is_locked v.me.locks p ≡ true → Goes v m w
+
+-- how many messages an answer is
+abbrev answers : Option Kind → ℕ
+answers None = 0
+answers (Some k) = 1
+
+-- a link with an answer has no more messages than that more
+answer_length : (answer : Option Kind) (ms : List Message) → length (with_answer answer ms) ≤ length ms + answers answer
+answer_length (Some kind.Ready) ms = omega (arith, length-append {A = Message})
+answer_length (Some kind.Dual) ms = omega (arith, length-append {A = Message})
+answer_length (Some kind.Done) ms = omega (arith, length-append {A = Message})
+answer_length answer ms = omega arith
 
 -- what a node's take does
 module _ (v : View) where
@@ -113,135 +126,80 @@ module _ (v : View) where
   unfolding arrival_step
   stays m taken e = by_line m taken Stray e (Strays refl e)
 
+  -- a message turns the mode, and the new one with the answer costs no more than the old one
+  turns_goes : (m : Message) (taken : Front m v) (to : NodeMode) (answer : Option Kind) → mode_line m v ≡ Turns to answer
+      → (is_source v.me.mode ≡ true → (is_source to ≡ true) ⊎ (to ≡ Empty))
+      → cost to (length (with_brought m v.me).pages) + answers answer ≤ cost v.me.mode (length v.me.pages)
+      → Goes v m (arrival_step (mode_line m v) m v (rest v taken.after)).after
+  unfolding arrival_step
+  turns_goes m taken to answer e source most =
+      let first = ap length taken.front in
+      let sent = answer_length answer v.outbox in
+      by_line m taken (Turns to answer) e (Acts (record { txns = refl; commits = refl; them = refl; source = source; less = omega (arith, first, sent, most) }))
+
+  -- what my mode costs, by its name
+  mode_cost : (m : NodeMode) → v.me.mode ≡ m → cost v.me.mode (length v.me.pages) ≡ cost m (length v.me.pages)
+  mode_cost m e = ap (λ x. cost x (length v.me.pages)) e
+
   -- taking a wireframe
   wire_goes : (lows : List ℕ) (taken : Front (Wire lows) v)
       → Goes v (Wire lows) (arrival_step (mode_line (Wire lows) v) (Wire lows) v (rest v taken.after)).after
-  unfolding arrival_step
   wire_goes lows taken =
-      let first = ap length taken.front in
       elim (wire_line v.me.mode (all_here (with_brought (Wire lows) v.me))) [
         | inl e ↦ stays (Wire lows) taken e
-        | inr h ↦
-            let old = ap (λ x. cost x (length v.me.pages)) h.0 in
-            by_line (Wire lows) taken _ h.1 (Acts (record {
-              txns = refl;
-              commits = refl;
-              them = refl;
-              source = no_source v.me.mode (ap is_source h.0);
-              less = omega (arith, old, first, length-append {A = Message});
-            }))
+        | inr h ↦ let old = mode_cost Empty h.0 in turns_goes (Wire lows) taken _ _ h.1 (no_source v.me.mode (ap is_source h.0)) (omega (arith, old))
       ]
 
   -- taking a ready
   ready_goes : (taken : Front Ready v) → Goes v Ready (arrival_step (mode_line Ready v) Ready v (rest v taken.after)).after
-  unfolding arrival_step
   ready_goes taken =
-      let first = ap length taken.front in
       elim (ready_line v.me.mode (all_here (with_brought Ready v.me))) [
         | inl e ↦ stays Ready taken e
-        | inr h ↦
-            let old = ap (λ x. cost x (length v.me.pages)) h.0 in
-            by_line Ready taken _ h.1 (Acts (record {
-              txns = refl;
-              commits = refl;
-              them = refl;
-              source = (λ _. inl refl);
-              less = omega (arith, old, first, length-append {A = Message});
-            }))
+        | inr h ↦ let old = mode_cost SInit h.0 in turns_goes Ready taken _ _ h.1 (λ _. inl refl) (omega (arith, old))
       ]
 
   -- taking a dual
   dual_goes : (taken : Front Dual v) → Goes v Dual (arrival_step (mode_line Dual v) Dual v (rest v taken.after)).after
-  unfolding arrival_step
   dual_goes taken =
-      let first = ap length taken.front in
       elim (dual_line v.me.mode (all_here (with_brought Dual v.me))) [
         | inl e ↦ stays Dual taken e
-        | inr h ↦
-            let old = ap (λ x. cost x (length v.me.pages)) h.0 in
-            by_line Dual taken _ h.1 (Acts (record {
-              txns = refl;
-              commits = refl;
-              them = refl;
-              source = no_source v.me.mode (ap is_source h.0);
-              less = omega (arith, old, first);
-            }))
+        | inr h ↦ let old = mode_cost DInit h.0 in turns_goes Dual taken _ _ h.1 (no_source v.me.mode (ap is_source h.0)) (omega (arith, old))
       ]
 
   -- taking a page, the last one or one of more
   page_goes : (leaf : Leaf) (taken : Front (Page leaf) v)
       → Goes v (Page leaf) (arrival_step (mode_line (Page leaf) v) (Page leaf) v (rest v taken.after)).after
-  unfolding arrival_step
   page_goes leaf taken =
-      let first = ap length taken.front in
       elim (page_line v.me.mode (all_here (with_brought (Page leaf) v.me))) [
         | inl e ↦ stays (Page leaf) taken e
         | inr h ↦ elim h [
           | inl more ↦
               let old = pulls_cost v.me.mode more.0 (length v.me.pages) in
               let new = pulls_cost v.me.mode more.0 (length (with_page leaf v.me.pages)) in
-              by_line (Page leaf) taken _ more.2 (Acts (record {
-                txns = refl;
-                commits = refl;
-                them = refl;
-                source = no_source v.me.mode (pulls_off v.me.mode more.0);
-                less = omega (arith, old, new, first);
-              }))
-          | inr last ↦
-              let old = ap (λ x. cost x (length v.me.pages)) last.0 in
-              by_line (Page leaf) taken _ last.2
-              (Acts (record {
-                txns = refl;
-                commits = refl;
-                them = refl;
-                source = no_source v.me.mode (ap is_source last.0);
-                less = omega (arith, old, first, length-append {A = Message});
-              }))
+              turns_goes (Page leaf) taken _ _ more.2 (no_source v.me.mode (pulls_off v.me.mode more.0)) (omega (arith, old, new))
+          | inr last ↦ let old = mode_cost DFinish last.0 in turns_goes (Page leaf) taken _ _ last.2 (no_source v.me.mode (ap is_source last.0)) (omega (arith, old))
         ]
       ]
 
   -- taking a finish, with all pages here or not
   finish_goes : (taken : Front Finish v) → Goes v Finish (arrival_step (mode_line Finish v) Finish v (rest v taken.after)).after
-  unfolding arrival_step
   finish_goes taken =
-      let first = ap length taken.front in
       elim (finish_line v.me.mode (all_here (with_brought Finish v.me))) [
         | inl e ↦ stays Finish taken e
-        | inr h ↦ let old = ap (λ x. cost x (length v.me.pages)) h.0 in elim h.1 [
-          | inl some ↦ by_line Finish taken _ some.1 (Acts (record {
-            txns = refl;
-            commits = refl;
-            them = refl;
-            source = no_source v.me.mode (ap is_source h.0);
-            less = omega (arith, old, first);
-          }))
-          | inr all ↦ by_line Finish taken _ all.1
-              (Acts (record {
-                txns = refl;
-                commits = refl;
-                them = refl;
-                source = no_source v.me.mode (ap is_source h.0);
-                less = omega (arith, old, first, length-append {A = Message});
-              }))
-        ]
+        | inr h ↦
+            let old = mode_cost DDual h.0 in
+            elim h.1 [
+              | inl some ↦ turns_goes Finish taken _ _ some.1 (no_source v.me.mode (ap is_source h.0)) (omega (arith, old))
+              | inr all ↦ turns_goes Finish taken _ _ all.1 (no_source v.me.mode (ap is_source h.0)) (omega (arith, old))
+            ]
       ]
 
   -- taking a done
   done_goes : (taken : Front Done v) → Goes v Done (arrival_step (mode_line Done v) Done v (rest v taken.after)).after
-  unfolding arrival_step
   done_goes taken =
-      let first = ap length taken.front in
       elim (done_line v.me.mode (all_here (with_brought Done v.me))) [
         | inl e ↦ stays Done taken e
-        | inr h ↦
-            let old = ap (λ x. cost x (length v.me.pages)) h.0 in
-            by_line Done taken _ h.1 (Acts (record {
-              txns = refl;
-              commits = refl;
-              them = refl;
-              source = (λ _. inr refl);
-              less = omega (arith, old, first);
-            }))
+        | inr h ↦ let old = mode_cost SFinish h.0 in turns_goes Done taken _ _ h.1 (λ _. inr refl) (omega (arith, old))
       ]
 
   -- taking a pull in a mode that sends: it is stale, it waits for the lock, or the page leaves
@@ -253,7 +211,7 @@ module _ (v : View) where
       cond_both (not (owns v.me.pages p)) _ _ (λ (z : Move). Goes v (Pull p) z.after)
       (λ _. Acts (record { txns = refl; commits = refl; them = refl; source = (λ on. inl on); less = omega (arith, first) }))
       (λ own. cond_both (is_held sc.rule && is_locked v.me.locks p) _ _ (λ (z : Move). Goes v (Pull p) z.after)
-      (λ held. IsHeld refl p (and_parts _ _ held).1)
+      (λ held. IsHeld refl p sends (and_parts _ _ held).1)
       (λ _. let k = leaves_less p (rest v taken.after) sends (not-false _ own) in
       let less = k.less in Acts (record { txns = k.txns; commits = k.commits; them = k.them; source = k.source; less = omega (arith, first, less) })))
 
@@ -285,13 +243,14 @@ module _ (v : View) where
   unfolding take_step front_step
   take_goes sc m taken = subst (λ ms. Goes v m (front_step sc ms v).after) (sym taken.front) (message_goes sc m taken)
 
-  -- where the mode knows it and nobody has a lock, less is left
-  pub take_less : (sc : Scenario) (m : Message) (taken : Front m v) → (mode_line m v ≡ Stray → ⊥) → v.me.locks ≡ [] → Lowers v (take_step sc v).after
+  -- where the mode knows it, and nobody has a lock at a node that sends, less is left
+  pub take_less : (sc : Scenario) (m : Message) (taken : Front m v) → (mode_line m v ≡ Stray → ⊥) → (is_sending v.me.mode ≡ true → v.me.locks ≡ [])
+      → Lowers v (take_step sc v).after
   take_less sc m taken known free =
       elim (take_goes sc m taken) [
         | Acts k ↦ k
         | Strays e line ↦ absurd (known line)
-        | IsHeld e p held ↦ absurd (false≢true (sym (ap (λ xs. is_locked xs p) free) ∙ held))
+        | IsHeld e p sends held ↦ absurd (false≢true (sym (ap (λ xs. is_locked xs p) (free sends)) ∙ held))
       ]
 
 -- a step of a node leaves what it sees, or less to do
@@ -306,7 +265,7 @@ take_by sc v (m ∷ ms) e =
     elim (take_goes v sc m (record { after = ms; front = e })) [
       | Acts k ↦ inr k
       | Strays same line ↦ inl same
-      | IsHeld same p held ↦ inl same
+      | IsHeld same p sends held ↦ inl same
     ]
 
 -- a finish that acts leaves less to do

@@ -39,14 +39,14 @@ use Rattle.zy_laws.proofs.way_out.Lacking.{BothLack, Lacking, lacking_them, one_
 use Rattle.zy_laws.proofs.way_out.Less.{Lowered, cost, finishes_less, left, lowered, migration_step, pushes_less, take_less}
 
 -- what is known of a state that a schedule leads to
-record Known (s : State) : Type 0 where
-  inv : (n : Node) → Inv (facing n s)
-  holders : HoldersActive s
+pub record Known (s : State) : Type 0 where
+  pub inv : (n : Node) → Inv (facing n s)
+  pub holders : HoldersActive s
   lacks : BothLack s
   left_none : (n : Node) → (facing n s).me.mode ≡ Empty → (facing n s).them.mode ≡ Normal → NothingLeft n (facing n s)
 
 -- it is known of each
-known : (sc : Scenario) → IsScenario sc → (s : State) → From sc s → Known s
+pub known : (sc : Scenario) → IsScenario sc → (s : State) → From sc s → Known s
 known sc ok s f =
     let s0 = play sc (opening sc) f.choices in
     let at : Known s0 = record {
@@ -91,7 +91,7 @@ none_from n t (x ∷ xs) idle =
     ap (λ b. if b && same_node x.node n then Some t else active_from n (t + 1) xs) (idle 0) ∙ none_from n (t + 1) xs (λ i. idle (suc i))
 
 -- the transactions are the same from either side
-txns_side : (n : Node) (s : State) → (facing n s).txns ≡ s.txns
+pub txns_side : (n : Node) (s : State) → (facing n s).txns ≡ s.txns
 txns_side A s = refl
 txns_side B s = refl
 
@@ -105,7 +105,7 @@ handing (Is Done_sent at) m o b = absurd (subst PullsAndDone b at.back)
 handing (Is g at) m o b = cc (at.source, m)
 
 -- a page that is not owned is not counted
-not_counted : (p : ℕ) (xs : List Leaf) → owns xs p ≡ false → times p xs ≡ 0
+pub not_counted : (p : ℕ) (xs : List Leaf) → owns xs p ≡ false → times p xs ≡ 0
 not_counted p xs off =
     elim (cases_lt 0 (times p xs)) [
       | inl some ↦ absurd (false≢true (sym off ∙ owns_from p xs (omega (arith, some))))
@@ -125,16 +125,17 @@ some_page v i l inbox outbox finish none =
     let out_none : times_sent m.0 v.outbox ≡ 0 = ap (times_sent m.0) outbox in
     absurd (grind (arith, nat_tests, k, below, mine, theirs, in_none, out_none))
 
--- each of what may come next leaves less to do
-module _ (sc : Scenario) (n : Node) (s : State) (k : Known s) (idle : NoneActive s) where
-  -- a take of what is on the link
-  take_lowers : (m : Message) (ms : List Message) → (facing n s).inbox ≡ m ∷ ms → Lowered s (step sc (Take n) s).after
-  unfolding step move
-  take_lowers m ms e =
-      let v = facing n s in
-      lowered n s (take_step sc v).after
-      (take_less v sc m (record { after = ms; front = e }) (λ line. knows_front v m ms e line (k.inv n).roles) (free_locks n s k idle))
+-- a take of what is on the link, at a node that has no lock or does not send
+pub take_lowers : (sc : Scenario) (n : Node) (s : State) → Known s → (is_sending (facing n s).me.mode ≡ true → (facing n s).me.locks ≡ [])
+    → (m : Message) (ms : List Message) → (facing n s).inbox ≡ m ∷ ms → Lowered s (step sc (Take n) s).after
+unfolding step move
+take_lowers sc n s k free m ms e =
+    let v = facing n s in
+    lowered n s (take_step sc v).after
+    (take_less v sc m (record { after = ms; front = e }) (λ line. knows_front v m ms e line (k.inv n).roles) free)
 
+-- what a node does of itself, with no message to take
+module _ (sc : Scenario) (n : Node) (s : State) (k : Known s) (idle : NoneActive s) where
   -- a finish in SDual
   finish_lowers : (facing n s).me.mode ≡ SDual → Lowered s (step sc (Finish_at n) s).after
   unfolding step move
@@ -177,7 +178,7 @@ data Ahead (sc : Scenario) (s : State) : Type 0 where
 ahead : (sc : Scenario) (s : State) → Known s → NoneActive s → Ahead sc s
 ahead sc s k idle =
     elim (next_cases s s.ab s.ba s.a.mode s.b.mode refl refl refl refl) [
-      | Takes n m ms e is ↦ Goes_on (Take n) is refl (take_lowers sc n s k idle m ms e)
+      | Takes n m ms e is ↦ Goes_on (Take n) is refl (take_lowers sc n s k (λ _. free_locks n s k idle) m ms e)
       | Ends_dual n dual is ↦ Goes_on (Finish_at n) is refl (finish_lowers sc n s k idle dual)
       | Hands_on n inbox outbox finish is ↦ Goes_on (Push n) is refl (push_lowers sc n s k idle inbox outbox finish)
       | Nothing ab ba a b is ↦ At_end (over_by s k idle ab ba a b (k.inv A).roles) is
@@ -274,7 +275,7 @@ cost_most DDual n = omega arith
 cost_most DFinish n = omega arith
 
 -- so enough is enough
-left_enough : (s : State) → left (facing A s) ≤ enough s
+pub left_enough : (s : State) → left (facing A s) ≤ enough s
 left_enough s =
     let a = cost_most s.a.mode (length s.a.pages) in
     let b = cost_most s.b.mode (length s.b.pages) in
