@@ -3,7 +3,7 @@ use Rattle.std.proofs.Common.{◌≡◌, ℕ, Bool, true, false, Option, Some, N
 use Rattle.std.proofs.lemmas.Bool.{ltb-true}
 use Rattle.std.proofs.lemmas.Option.{none-some}
 use Rattle.std.specs.Prelude.{length, nat_lt}
-use Rattle.zy_stops.specs.Slots.{free_slot}
+use Rattle.zy_debug.specs.Slots.{free_slot}
 use Rattle.zy_debug.specs.Commands.{Does, Obeys, in_range, refusal, set_at, stop_reply}
 use Rattle.zy_debug.specs.Sessions.{Session}
 use Rattle.zy_debug.specs.declared.command.Command.{Command}

@@ -6,7 +6,7 @@ use Rattle.zy_io.specs.declared.writing.TextFault.{TextFault}
 use Rattle.zy_io.specs.declared.writing.TextFault.TheVariants.{Write, Memory}
 use Rattle.zy_isa.specs.Scenario.{Scenario}
 use Rattle.zy_text.specs.Words.{words_of}
-use Rattle.zy_stops.specs.Stops.{no_stops}
+use Rattle.zy_debug.specs.Stops.{no_stops}
 use Rattle.zy_debug.specs.Commands.{refusal, Does}
 use Rattle.zy_debug.specs.Sessions.{Session}
 use Rattle.zy_debug.specs.declared.command.Command.{Command}

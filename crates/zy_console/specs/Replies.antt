@@ -8,7 +8,7 @@ use Rattle.zy_isa.specs.Scenario.{Scenario}
 use Rattle.zy_listing.specs.Locked.{page_reply}
 use Rattle.zy_listing.specs.Nodes.{node_reply}
 use Rattle.zy_listing.specs.Texts.{txn_text, link_text, mode_word}
-use Rattle.zy_stops.specs.Stops.{state_at}
+use Rattle.zy_machine.specs.Replays.{state_at}
 use Rattle.zy_debug.specs.Sessions.{Session}
 use Rattle.zy_debug.specs.declared.command.Reply.{Reply}
 use Rattle.zy_debug.specs.declared.command.Reply.TheVariants as reply

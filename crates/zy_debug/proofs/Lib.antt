@@ -1,2 +1,4 @@
 mod KeptLemmas
 pub mod ReplyLemmas
+mod ScanLemmas
+pub mod FiringLemmas

@@ -1,10 +1,10 @@
 -- Each command that is not rejected leads to one session and has one reply.
 use Rattle.std.proofs.Common.{◌≡◌, ◌∙◌, ℕ, ◌+◌, ◌-◌, Bool, true, false, not, is_none, nat_le, nat_lt, Option, Some, None, refl, sym, ap, ap₂}
 use Rattle.std.proofs.lemmas.Option.{none-some}
-use Rattle.zy_stops.specs.declared.stop.Stop.{Stop}
-use Rattle.zy_stops.specs.declared.stop.Stop.TheVariants as stop
-use Rattle.zy_stops.specs.Slots.{free_slot, with_stop, without_stop}
-use Rattle.zy_stops.proofs.FiringLemmas.{goes_on, goes_back, goes_on_once, goes_back_once}
+use Rattle.zy_debug.specs.declared.stop.Stop.{Stop}
+use Rattle.zy_debug.specs.declared.stop.Stop.TheVariants as stop
+use Rattle.zy_debug.specs.Slots.{free_slot, with_stop, without_stop}
+use Rattle.zy_debug.proofs.FiringLemmas.{goes_on, goes_back, goes_on_once, goes_back_once}
 use Rattle.zy_debug.specs.Sessions.{Session, goes}
 use Rattle.zy_debug.specs.Commands.{Does, GoesOn, GoesBack, Moves, Sets, refusal, has_room, has_room_in_range, set_at, stop_reply, unless}
 use Rattle.zy_debug.specs.declared.command.Command.{Command}

@@ -4,7 +4,7 @@ use Rattle.std.specs.List.{list_any}
 use Rattle.circular_buffer.specs.Buffer.{keep_last}
 use Rattle.zy_isa.specs.Scenario.{Scenario}
 use Rattle.zy_machine.specs.Histories.{History}
-use Rattle.zy_stops.specs.Scans.{Follows}
+use Rattle.zy_machine.specs.Replays.{Follows}
 
 -- the machines in the order in which they came, and how many there may be
 pub record Kept : Type 0 where

@@ -2,11 +2,11 @@
 use Rattle.std.specs.Prelude.{ℕ, ◌≡◌, ◌+◌, ◌-◌, ◌==◌, ◌&&◌, Bool, true, false, not, nat_le, nat_lt, length, is_none}
 use Rattle.std.specs.Prelude.{slice_get, Option, Some, None, Result, Ok, Err}
 use Rattle.zy_isa.specs.Limits.{max_key}
-use Rattle.zy_stops.specs.declared.stop.Stop.{Stop}
-use Rattle.zy_stops.specs.declared.stop.Stop.TheVariants as stop
-use Rattle.zy_stops.specs.Stops.{Slots}
-use Rattle.zy_stops.specs.Slots.{free_slot, with_stop, without_stop, is_set}
-use Rattle.zy_stops.specs.Scans.{Conts, RConts}
+use Rattle.zy_debug.specs.declared.stop.Stop.{Stop}
+use Rattle.zy_debug.specs.declared.stop.Stop.TheVariants as stop
+use Rattle.zy_debug.specs.Stops.{Slots}
+use Rattle.zy_debug.specs.Slots.{free_slot, with_stop, without_stop, is_set}
+use Rattle.zy_debug.specs.Scans.{Conts, RConts}
 use Rattle.zy_debug.specs.declared.command.Command.{Command}
 use Rattle.zy_debug.specs.declared.command.Command.TheVariants as command
 use Rattle.zy_debug.specs.declared.command.Reply.{Reply}

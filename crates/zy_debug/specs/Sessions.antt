@@ -2,8 +2,8 @@
 use Rattle.std.specs.Prelude.{ℕ, ◌≡◌, length}
 use Rattle.zy_isa.specs.Scenario.{Scenario}
 use Rattle.zy_machine.specs.Histories.{History}
-use Rattle.zy_stops.specs.Stops.{Slots}
-use Rattle.zy_stops.specs.Scans.{Follows}
+use Rattle.zy_debug.specs.Stops.{Slots}
+use Rattle.zy_machine.specs.Replays.{Follows}
 
 pub record Session : Type 0 where
   pub scenario : Scenario

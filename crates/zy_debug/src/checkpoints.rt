@@ -8,7 +8,7 @@ use crate::shelf::Shelf;
 use std::alloc::{AllocError, Global};
 use std::marker::Model;
 use zy_machine::Machine;
-use zy_stops::replay::advance_to;
+use zy_machine::replay::advance_to;
 
 /// Copies of machines that are spread over the scenario, the last ones that were passed, and those close to where a
 /// replay ended.

@@ -2,9 +2,9 @@
 ghost use Rattle.std.specs.Prelude.{◌≡◌, true, false, ◌≤◌, ◌<◌, ◌==◌, ◌&&◌, ◌-◌, IfOk, IfSome, OnOk, OnErr};
 ghost use Rattle.std.specs.Prelude.{length, nat_le, nat_lt, option_copied};
 ghost use Rattle.zy_isa.specs.Limits.{max_choices, max_key};
-ghost use Rattle.zy_stops.specs.declared.stop.Stop.TheVariants as stop;
-ghost use Rattle.zy_stops.specs.Scans.{Conts, RConts, LastIn};
-ghost use Rattle.zy_stops.specs.Stops.{max_stops, no_stops};
+ghost use Rattle.zy_debug.specs.declared.stop.Stop.TheVariants as stop;
+ghost use Rattle.zy_debug.specs.Scans.{Conts, RConts, LastIn};
+ghost use Rattle.zy_debug.specs.Stops.{max_stops, no_stops};
 ghost use Rattle.zy_debug.specs.Commands.{refusal, Does, Obeys, Moves, GoesOn, GoesBack, Sets, Deletes, Stays};
 ghost use Rattle.zy_debug.specs.Commands.{has_room, has_room_in_range, has_stop, in_range, unless};
 ghost use Rattle.zy_debug.specs.Checkpoints.{IsReplayOf};
@@ -20,9 +20,9 @@ use std::marker::Model;
 use std::mem::swap;
 use zy_isa::Scenario;
 use zy_machine::Machine;
-use zy_stops::replay::{restart, start};
-use zy_stops::scan::{cont, last_firing};
-use zy_stops::{Stop, Stops};
+use zy_machine::replay::{restart, start};
+use crate::scan::{cont, last_firing};
+use crate::{Stop, Stops};
 
 /// A scenario, a position in its choices, and stops.
 #[derive(Drop)]
@@ -36,7 +36,7 @@ pub struct Debugger {
 impl Model for Debugger {
     ghost use Rattle.std.specs.Prelude.{length};
     ghost use Rattle.zy_debug.specs.Sessions.{Session};
-    ghost use Rattle.zy_stops.specs.Scans.{Follows};
+    ghost use Rattle.zy_machine.specs.Replays.{Follows};
     ghost use Rattle.zy_debug.specs.Checkpoints.{HoldReplaysOf};
 
     ghost Value = { Session };

@@ -21,8 +21,8 @@ use Rattle.zy_engine.specs.declared.searching.SearchOptions.{SearchOptions}
 use Rattle.zy_engine.specs.Searching.{history_of, taken, IsTextOf, WroteAnswer, WroteSome}
 use Rattle.zy_io.proofs.StreamLemmas.{WrotePrefix-none}
 use Rattle.zy_machine.specs.Histories.{History}
-use Rattle.zy_stops.specs.Scans.{Follows}
-use Rattle.zy_stops.specs.Stops.{state_at}
+use Rattle.zy_machine.specs.Replays.{Follows}
+use Rattle.zy_machine.specs.Replays.{state_at}
 use Rattle.zy_table.specs.Play.{step, play, opening, entries}
 use Rattle.zy_table.specs.State.{State}
 use Rattle.zy_table.specs.declared.entry.Entry.{Entry}

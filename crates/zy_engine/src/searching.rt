@@ -21,7 +21,7 @@ use zy_isa::{Choice, Scenario};
 use zy_machine::{Fault, Machine};
 use zy_search::search::search;
 use zy_search::{Limits, SearchAnswer, SearchReport, Sought, Watch};
-use zy_stops::replay::{advance_to, start};
+use zy_machine::replay::{advance_to, start};
 use zy_text::Each;
 
 /// What a search goes by, beside what it looks for.

@@ -3,8 +3,8 @@ use Rattle.std.proofs.Common.{◌≡◌, ◌∙◌, ◌+◌, ◌++◌, ◌∷◌
 use Rattle.std.proofs.lemmas.List.Elements.{filter-append}
 use Rattle.zy_isa.specs.Scenario.{Scenario}
 use Rattle.zy_machine.specs.Histories.{History}
-use Rattle.zy_stops.specs.Scans.{Follows}
-use Rattle.zy_stops.specs.Stops.{state_at}
+use Rattle.zy_machine.specs.Replays.{Follows}
+use Rattle.zy_machine.specs.Replays.{state_at}
 use Rattle.zy_table.specs.State.{State}
 use Rattle.zy_search.specs.Along.{below}
 use Rattle.zy_search.specs.Searches.{shows}

@@ -1,7 +1,7 @@
 -- Where a scenario's own run shows what is looked for.
 use Rattle.std.specs.Prelude.{ℕ, zero, suc, ◌+◌, ◌++◌, ◌∷◌, [], List, length, filter, min}
 use Rattle.zy_isa.specs.Scenario.{Scenario}
-use Rattle.zy_stops.specs.Stops.{state_at}
+use Rattle.zy_machine.specs.Replays.{state_at}
 use Rattle.zy_search.specs.declared.sought.Sought.{Sought}
 use Rattle.zy_search.specs.Searches.{deepest, shows}
 

@@ -1,7 +1,7 @@
 //! Where a scenario's own run shows what is looked for.
 ghost use Rattle.std.specs.Prelude.{◌≡◌, [], IfOk};
 ghost use Rattle.zy_search.specs.Along.{shown_along};
-ghost use Rattle.zy_stops.specs.Scans.{Follows};
+ghost use Rattle.zy_machine.specs.Replays.{Follows};
 
 use crate::search::choices_from;
 use crate::shows::shows_all;
@@ -9,7 +9,7 @@ use crate::sought::{Sought, deepest};
 use std::alloc::Global;
 use zy_isa::Scenario;
 use zy_machine::{Fault, Machine};
-use zy_stops::replay::{advance_to, start};
+use zy_machine::replay::{advance_to, start};
 
 /// Makes the choices of a machine that has made none yet, and gives the positions at which its state shows what is
 /// looked for.

@@ -1,6 +1,6 @@
 -- Each position is judged by the state of the machine that has come there.
 use Rattle.std.proofs.Common.{◌∙◌, ℕ, Bool, ap, arith, sym}
-use Rattle.zy_stops.specs.Stops.{state_at}
+use Rattle.zy_machine.specs.Replays.{state_at}
 use Rattle.zy_search.specs.Searches.{shows}
 use Rattle.zy_search.proofs.AlongLemmas.{more_fails, more_passes, shows_at}
 use Rattle.zy_search.proofs.along.along_by.Goals as goal

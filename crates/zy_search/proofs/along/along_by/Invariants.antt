@@ -1,6 +1,6 @@
 use Rattle.std.proofs.Common.{◌≡◌, ◌≤◌, filter, length}
-use Rattle.zy_stops.specs.Scans.{Follows}
-use Rattle.zy_stops.specs.Stops.{state_at}
+use Rattle.zy_machine.specs.Replays.{Follows}
+use Rattle.zy_machine.specs.Replays.{state_at}
 use Rattle.zy_search.specs.Along.{below}
 use Rattle.zy_search.specs.Searches.{shows}
 use Rattle.zy_search.proofs.along.along_by.Given as goal

@@ -1,2 +1,0 @@
-mod ScanLemmas
-pub mod FiringLemmas

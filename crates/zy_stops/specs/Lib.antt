@@ -1,3 +1,0 @@
-pub mod Stops
-pub mod Scans
-pub mod Slots
