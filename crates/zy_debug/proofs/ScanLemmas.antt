@@ -1,19 +1,14 @@
 -- Where stops fire at one choice more.
-use Rattle.std.proofs.Common.{◌≡◌, ◌∙◌, ℕ, ◌+◌, ◌-◌, ◌<◌, ◌≤◌, List, [], ◌∷◌, ◌++◌, length, map, refl, sym, ap, arith, length-append, Bool, true, false, not}
-use Rattle.std.proofs.Common.{nat_le, nat_eq, get_or, position, Option, Some, None, IfSome}
+use Rattle.std.proofs.Common.{◌≡◌, ◌∙◌, ℕ, ◌+◌, ◌<◌, ◌≤◌, List, [], ◌∷◌, length, map, refl, sym, ap, arith, Bool, true, false, not}
+use Rattle.std.proofs.Common.{nat_le, nat_eq, position, Option, Some, None, IfSome}
 use Rattle.std.proofs.lemmas.List.{length-map}
 use Rattle.std.proofs.lemmas.List.Quantifiers.{position-Some}
 use Rattle.std.specs.List.{prefix_len}
-use Rattle.zy_isa.specs.declared.choice.Choice.{Choice}
-use Rattle.zy_isa.specs.declared.choice.Choice.TheVariants.{Start}
 use Rattle.zy_isa.specs.Scenario.{Scenario}
-use Rattle.zy_table.specs.declared.entry.Entry.{Entry}
 use Rattle.zy_table.specs.declared.outcome.Outcome.{Outcome}
 use Rattle.zy_table.specs.State.{State}
-use Rattle.zy_table.specs.Play.{step, entry_of, opening}
 use Rattle.zy_machine.specs.Histories.{History}
 use Rattle.zy_machine.proofs.ReplayLemmas.{back_one}
-use Rattle.zy_machine.proofs.HistoryLemmas.{play-more, entries-more}
 use Rattle.std.proofs.lemmas.Bool.Decides.{nat_tests}
 use Rattle.zy_machine.specs.Replays.{state_at, outcome_at}
 use Rattle.zy_debug.specs.Stops.{Slots, firing, fires, slot_fires, slot_reading}

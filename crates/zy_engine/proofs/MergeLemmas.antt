@@ -14,9 +14,9 @@ use Rattle.zy_table.specs.Serial.{serial, alone}
 use Rattle.zy_table.specs.State.{State}
 use Rattle.zy_machine.specs.Histories.{History, choices_of}
 use Rattle.zy_listing.specs.Listing.{listing, ending_texts}
-use Rattle.zy_listing.specs.Lone.{map_of}
+use Rattle.zy_serial.specs.Lone.{map_of}
 use Rattle.zy_listing.specs.Run.{listing_run}
-use Rattle.zy_listing.specs.SameMaps.{is_serial, same_map}
+use Rattle.zy_serial.specs.SameMaps.{is_serial, same_map}
 use Rattle.zy_threads.specs.Orders.{reordered, IsRunOf}
 use Rattle.zy_threads.proofs.Reordered.{opening-reordered, play-reordered, entries-reordered}
 

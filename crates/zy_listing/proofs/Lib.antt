@@ -1,11 +1,4 @@
 mod ListingLemmas
 mod Worked
-mod LaidRows
-mod LoneSteps
-mod Gathered
-mod Covered
-mod Entries
-mod Commits
 mod LinkLemmas
 mod RunLemmas
-mod Laying

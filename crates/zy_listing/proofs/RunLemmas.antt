@@ -5,7 +5,7 @@ use Rattle.zy_table.specs.Play.{play, entries, opening}
 use Rattle.zy_laws.proofs.walk.PlayPush.{choices-entries}
 use Rattle.zy_machine.specs.Histories.{History, choices_of}
 use Rattle.zy_listing.specs.Listing.{listing}
-use Rattle.zy_listing.specs.SameMaps.{is_serial}
+use Rattle.zy_serial.specs.SameMaps.{is_serial}
 use Rattle.zy_listing.specs.Run.{listing_run}
 
 -- the machine that has made all choices

@@ -2,8 +2,4 @@ pub mod Texts
 pub mod Listing
 pub mod Locked
 pub mod Nodes
-pub mod Lone
-pub mod SameMaps
-pub mod Covering
 pub mod Run
-pub mod Laying

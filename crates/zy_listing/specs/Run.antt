@@ -6,7 +6,7 @@ use Rattle.zy_isa.specs.Scenario.{Scenario}
 use Rattle.zy_table.specs.Play.{entries, play, opening}
 use Rattle.zy_machine.specs.Histories.{History}
 use Rattle.zy_listing.specs.Listing.{listing}
-use Rattle.zy_listing.specs.SameMaps.{is_serial}
+use Rattle.zy_serial.specs.SameMaps.{is_serial}
 
 -- the listing of a scenario under its choices, with what the test against the serial run says at its end
 abbrev pub listing_run : Scenario → List ℕ

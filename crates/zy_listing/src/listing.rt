@@ -3,13 +3,13 @@ ghost use Rattle.std.specs.Prelude.{◌<◌};
 ghost use Rattle.zy_io.specs.Writing.{Wrote};
 ghost use Rattle.zy_machine.specs.Histories.{choices_of};
 ghost use Rattle.zy_listing.specs.Listing.{listing};
-ghost use Rattle.zy_listing.specs.SameMaps.{is_serial};
+ghost use Rattle.zy_serial.specs.SameMaps.{is_serial};
 
 use crate::lines::final_state::FinalState;
 use crate::lines::serial::SerialLine;
 use crate::lines::step::Steps;
 use crate::lines::taken::Taken;
-use crate::serial::same;
+use zy_serial::serial::same;
 use std::alloc::Global;
 use zy_disasm::ScenarioHead;
 use zy_io::{AllLines, LineBuffer, One, Section, Sink, TextFault, sections};

@@ -5,7 +5,7 @@ use zy_check::Verdict;
 use zy_debug::{Reply, Shown};
 use zy_isa::{Actor, Choice, Node, Program, Row, Scenario};
 use zy_links::{Link, Message};
-use zy_listing::Table;
+use zy_serial::Table;
 use zy_locks::Locks;
 use zy_machine::Machine;
 use zy_model::Lock;

@@ -15,7 +15,7 @@ use zy_listing::lines::page::page_line;
 use zy_listing::lines::txn::txn_line;
 use zy_listing::listing::write_listing;
 use zy_listing::run::write_run;
-use zy_listing::serial::{same, serial};
+use zy_serial::serial::{same, serial};
 use zy_machine::Machine;
 
 /// More bytes than a call writes.
@@ -219,7 +219,7 @@ impl Calls for Lining {
     }
 }
 
-/// `zy_listing::serial::serial` and `same` of a machine.
+/// `zy_serial::serial::serial` and `same` of a machine.
 #[derive(Drop)]
 struct Testing {
     alloc: Global,

@@ -19,7 +19,7 @@ use Rattle.zy_table.specs.Client.{is_active}
 use Rattle.zy_table.specs.Database.{database}
 use Rattle.zy_table.specs.Run.{run_step}
 use Rattle.zy_table.specs.Play.{move, step, play}
-use Rattle.zy_listing.specs.SameMaps.{is_serial}
+use Rattle.zy_serial.specs.SameMaps.{is_serial}
 use Rattle.zy_machine.specs.declared.part.StatePart.TheVariants.{Live}
 use Rattle.zy_machine.specs.Alike.{live_txn, part_of, Alike}
 use Rattle.zy_goals.specs.declared.goal.Selector.TheVariants as selector

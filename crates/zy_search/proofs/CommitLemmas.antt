@@ -11,8 +11,8 @@ use Rattle.zy_table.specs.Database.{Map, database}
 use Rattle.zy_table.specs.Serial.{serial}
 use Rattle.zy_laws.proofs.serial.Values.{commits_alone}
 use Rattle.zy_machine.specs.Histories.{History, IsReplay, choices_of}
-use Rattle.zy_listing.specs.Lone.{map_of}
-use Rattle.zy_listing.specs.SameMaps.{same_map, is_serial}
+use Rattle.zy_serial.specs.Lone.{map_of}
+use Rattle.zy_serial.specs.SameMaps.{same_map, is_serial}
 use Rattle.zy_search.specs.declared.sought.Sought.{Sought}
 use Rattle.zy_goals.specs.declared.outcomes.OutcomePattern.{OutcomePattern}
 use Rattle.zy_goals.specs.Goals.{meets}

@@ -17,8 +17,8 @@ use Rattle.zy_table.specs.Run.{program_of}
 use Rattle.zy_table.specs.Play.{play, step, opening}
 use Rattle.zy_machine.specs.Histories.{History, IsReplay, choices_of}
 use Rattle.zy_machine.proofs.HistoryLemmas.{length-choices_of}
-use Rattle.zy_listing.specs.SameMaps.{same_map, is_serial}
-use Rattle.zy_listing.specs.Lone.{map_of}
+use Rattle.zy_serial.specs.SameMaps.{same_map, is_serial}
+use Rattle.zy_serial.specs.Lone.{map_of}
 use Rattle.zy_search.specs.declared.sought.Sought.{Sought}
 use Rattle.zy_goals.specs.declared.goal.Selector.TheVariants as selector
 use Rattle.zy_goals.specs.declared.goal.TxnProperty.TheVariants as property

@@ -8,7 +8,7 @@ use Rattle.zy_isa.specs.Scenario.{Scenario}
 use Rattle.zy_table.specs.State.{State}
 use Rattle.zy_table.specs.Play.{play}
 use Rattle.zy_machine.specs.Histories.{History}
-use Rattle.zy_listing.specs.SameMaps.{is_serial}
+use Rattle.zy_serial.specs.SameMaps.{is_serial}
 use Rattle.zy_search.specs.declared.sought.Sought.{Sought}
 use Rattle.zy_search.specs.declared.answer.SearchAnswer.{SearchAnswer}
 use Rattle.zy_search.specs.declared.answer.SearchAnswer.TheVariants as answer

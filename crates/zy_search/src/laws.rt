@@ -20,7 +20,7 @@ ghost use Rattle.zy_search.specs.Visits.{counted};
 ghost use Rattle.zy_search.specs.declared.deadlock.Wait.{Wait as AWait};
 ghost use Rattle.zy_search.specs.Deadlocks.{is_deadlocked, IsCycle};
 
-use zy_listing::laws::always_same;
+use zy_serial::laws::always_same;
 
 /// The scenario with the choices that were found is a scenario, and the state after its run shows what was looked for.
 pub fn found_runs()

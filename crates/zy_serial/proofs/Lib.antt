@@ -1,1 +1,8 @@
 mod OrderLemmas
+mod Covered
+mod Gathered
+mod LaidRows
+mod Laying
+mod LoneSteps
+mod Entries
+mod Commits

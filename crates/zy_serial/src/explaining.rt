@@ -1,7 +1,7 @@
 //! Whether a run needs another order than that of its commits, and which.
 ghost use Rattle.std.specs.Prelude.{◌≡◌, IfOk, IfSome, is_none};
-ghost use Rattle.zy_listing.specs.Lone.{map_of};
-ghost use Rattle.zy_listing.specs.SameMaps.{same_map};
+ghost use Rattle.zy_serial.specs.Lone.{map_of};
+ghost use Rattle.zy_serial.specs.SameMaps.{same_map};
 ghost use Rattle.zy_laws.specs.SourceFirst.{SerialIn};
 ghost use Rattle.zy_laws.specs.SourceFirst as laws;
 ghost use Rattle.zy_machine.specs.Histories.{choices_of};
@@ -11,8 +11,8 @@ ghost use Rattle.zy_table.specs.Serial.{serial};
 use crate::order::migration_order;
 use std::alloc::Global;
 use zy_isa::Rule;
-use zy_listing::laws::always_same;
-use zy_listing::serial::same;
+use crate::laws::always_same;
+use crate::serial::same;
 use zy_machine::{Fault, Machine};
 use zy_table::CommitRecord;
 

@@ -16,7 +16,7 @@ use Rattle.zy_table.specs.Play.{step, opening, play, entries}
 use Rattle.zy_laws.specs.Counts.{Safe}
 use Rattle.zy_laws.proofs.walk.PlayPush.{play-push, entries-push, length-entries}
 use Rattle.zy_machine.specs.Histories.{History, IsReplay, choices_of}
-use Rattle.zy_listing.specs.SameMaps.{is_serial}
+use Rattle.zy_serial.specs.SameMaps.{is_serial}
 use Rattle.zy_trace.specs.declared.form.StepForm.{StepForm}
 use Rattle.zy_trace.specs.declared.form.StepForm.TheVariants.{Lines}
 use Rattle.zy_trace.specs.declared.subject.Subject.{Subject}

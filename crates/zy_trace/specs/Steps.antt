@@ -8,7 +8,7 @@ use Rattle.zy_io.specs.Writing.{line_of}
 use Rattle.zy_table.specs.State.{Step}
 use Rattle.zy_table.specs.Play.{play, entries, opening, step, entry_of}
 use Rattle.zy_machine.specs.Histories.{History}
-use Rattle.zy_listing.specs.SameMaps.{is_serial}
+use Rattle.zy_serial.specs.SameMaps.{is_serial}
 use Rattle.zy_trace.specs.declared.form.StepForm.{StepForm}
 use Rattle.zy_trace.specs.Trace.{step_lines, last_lines}
 

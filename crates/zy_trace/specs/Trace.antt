@@ -10,7 +10,7 @@ use Rattle.zy_table.specs.declared.entry.Entry.{Entry}
 use Rattle.zy_table.specs.Play.{play, opening, step, entry_of}
 use Rattle.zy_listing.specs.Texts.{step_text, serial_text}
 use Rattle.zy_listing.specs.Listing.{final_texts}
-use Rattle.zy_listing.specs.SameMaps.{is_serial}
+use Rattle.zy_serial.specs.SameMaps.{is_serial}
 use Rattle.zy_trace.specs.declared.form.StepForm.{StepForm}
 use Rattle.zy_trace.specs.declared.form.StepForm.TheVariants.{Lines, Object}
 use Rattle.zy_trace.specs.Objects.{traced_text}

@@ -1,6 +1,5 @@
 use Rattle.std.proofs.Common.{refl, subst, sym}
 use Rattle.zy_debug.specs.Checkpoints.{HoldReplaysOf}
-use Rattle.zy_machine.specs.Replays.{Follows}
 use Rattle.zy_debug.proofs.debugger.Debugger.take_kept.Goals as goal
 
 pub invariant_of-self : goal.invariant_of-self

@@ -1,5 +1,0 @@
-use Rattle.zy_listing.proofs.Covered.{Covered}
-use Rattle.zy_listing.proofs.covering.covers.Given as goal
-
-abbrev pub invariant-loop-p : goal.invariant-loop-p
-invariant-loop-p l = Covered l.machine.state l.p l.table l.count

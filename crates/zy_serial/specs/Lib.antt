@@ -1,0 +1,4 @@
+pub mod Lone
+pub mod SameMaps
+pub mod Covering
+pub mod Laying
