@@ -1,5 +1,5 @@
 -- What is written for a step is the text of an object.
-use Rattle.std.proofs.Common.{◌≡◌, ℕ, ◌≤◌, List, [], ◌∷◌, ◌++◌, codes, Option, Some, None, refl, sym, ap, ◌∙◌, lit≤, append_assoc}
+use Rattle.std.proofs.Common.{◌≡◌, ℕ, ◌≤◌, List, [], ◌∷◌, ◌++◌, codes, Option, Some, None, refl, sym, ap, ◌∙◌, lit≤}
 use Rattle.json.specs.Token as token
 use Rattle.json.specs.Token.{Token}
 use Rattle.json.specs.Print.{print, quoted}
@@ -21,11 +21,6 @@ some_member f (Some text) ms = member (key_of f) (string text) ms
 abbrev pub members_of : Step → Members
 members_of s = member (key_of field.Actor) (string (actor_text s.actor)) (member (key_of field.Action) (string s.action)
     (some_member field.Came s.came (some_member field.Sent s.sent no_members)))
-
--- parts that are put down one after the other
-pub gathered : (p o a b c d z t0 t1 t2 t3 t4 t5 : List Token) → t0 ≡ p ++ o → t1 ≡ t0 ++ a → t2 ≡ t1 ++ b → t3 ≡ t2 ++ c → t4 ≡ t3 ++ d
-    → t5 ≡ t4 ++ z → t5 ≡ p ++ (o ++ (a ++ (b ++ (c ++ (d ++ z)))))
-gathered p o a b c d z t0 t1 t2 t3 t4 t5 e0 e1 e2 e3 e4 e5 = rw (e5, e4, e3, e2, e1, e0) (simp append_assoc)
 
 -- the tokens' text, by the texts that are there
 printed : (who what : List ℕ) (came sent : Option (List ℕ))

@@ -1,10 +1,9 @@
--- The line of JSON that is written for a step.
+-- The line of JSON for a step.
 use Rattle.std.specs.Prelude.{◌≡◌, ℕ, List, [], ◌∷◌, ◌++◌, codes, Option, Some, None, IfSome, Result, Ok, Err}
 use Rattle.std.specs.Str.{IsUtf8}
 use Rattle.json.specs.Print.{quoted}
 use Rattle.json.specs.Token as token
 use Rattle.json.specs.Token.{Token}
-use Rattle.json.specs.Written as writer
 use Rattle.zy_json.specs.declared.faults.JsonFault.{JsonFault}
 use Rattle.zy_json.specs.declared.faults.JsonFault.TheVariants.{Memory}
 use Rattle.zy_json.specs.declared.field.Member.{Member}
@@ -39,7 +38,7 @@ IsReadAs s (Ok x) = step_of x ≡ s
 IsReadAs s (Err Memory) = Unit {0}
 IsReadAs s (Err fault) = ⊥
 
--- ---- for private clauses: the tokens that are written
+-- ---- for proofs: the tokens of the text
 
 abbrev pub field_tokens : Member → List ℕ → List Token
 field_tokens f text = token.key (key_of f) ∷ token.string text ∷ []
@@ -52,7 +51,3 @@ some_tokens f (Some text) = field_tokens f text
 abbrev pub step_tokens : Step → List Token
 step_tokens s = token.begin_object ∷ (field_tokens field.Actor (actor_text s.actor) ++ (field_tokens field.Action s.action
     ++ (some_tokens field.Came s.came ++ (some_tokens field.Sent s.sent ++ token.end_object ∷ []))))
-
--- these tokens come behind those that were written
-abbrev pub Puts : writer.Written → writer.Written → List Token → Type 0
-Puts old new ts = (new.before ≡ old.before) × (new.tokens ≡ old.tokens ++ ts)

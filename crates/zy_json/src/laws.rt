@@ -11,14 +11,14 @@ ghost use Rattle.zy_json.specs.Steps.{Step as AStep, log_text};
 ghost use Rattle.zy_json.specs.Words.{IsLine, IsPart, line_words};
 ghost use Rattle.zy_json.specs.Written.{IsInUtf8, IsReadAs, json_text};
 
-/// What is written for a step tells the step. So it is read back as the same step, unless there is no memory: if its texts are in
+/// The line of JSON for a step tells the step. So it is read back as the same step, unless there is no memory: if its texts are in
 /// UTF-8, as those of a `JsonStep` are, and parts of a line of a log.
 pub fn written_is_read()
     ensures tells { (s : AStep) → IsInUtf8 s → IsLine s → Tells (json_text s) (Ok s) }
     ensures back { (s : AStep) (r : Result ARead JsonFault) → IsInUtf8 s → IsLine s → Reads (json_text s) r → IsReadAs s r }
 {}
 
-/// Where JSON escapes no sign of a step's texts, the line of a `PlainStep` is the line that is written for the step.
+/// Where JSON escapes no sign of a step's texts, the line of a `PlainStep` is the line of JSON for the step.
 pub fn plain_is_written()
     ensures { (s : AStep) → IsPlain s → plain_text s ≡ json_text s }
 {}

@@ -9,12 +9,10 @@ pub mod logs;
 pub mod plain;
 pub mod reading;
 pub mod step;
-pub mod writing;
 
 pub use crate::faults::{JsonFault, JsonLineFault, JsonLogFault};
 pub use crate::field::Member;
 pub use crate::plain::{PlainFields, PlainStep};
 pub use crate::reading::read;
 pub use crate::step::{JsonStep, LogText};
-pub use crate::writing::write;
 pub use json::Scratch;

@@ -2,7 +2,6 @@
 
 mod faults;
 mod image;
-mod json;
 mod lines;
 mod modes;
 mod threads;
