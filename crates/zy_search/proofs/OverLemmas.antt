@@ -49,7 +49,7 @@ over_of sc ok cs e =
     let links = and_parts (modes && ab) ba idle.0 in
     let none : NoneActive s = none_active s.txns (not-true _ idle.1) in
     elim (settled s.a.mode s.b.mode (and_parts modes ab links.0).0) [
-      inl m ↦ record { empty = A; modes = m; left = nothing_left sc ok cs A m.0 m.1; idle = none }
+      | inl m ↦ record { empty = A; modes = m; left = nothing_left sc ok cs A m.0 m.1; idle = none }
       | inr m ↦ record { empty = B; modes = m; left = nothing_left sc ok cs B m.0 m.1; idle = none }
     ]
 
