@@ -18,7 +18,7 @@ _zy_bench() {
     *) options='--help' ;;
   esac
   if [[ $before == --for ]]; then
-    options='differs aborted own killed badkey missing duplicate frozen nopage gone committed stuck deadlock'
+    options='differs aborted own killed badkey missing duplicate frozen nopage gone committed over stuck deadlock'
   elif [[ $before == --without ]]; then
     options='start begin kill run take finish push'
   fi

@@ -10,7 +10,7 @@ complete -c zy_bench -l json -d 'Steps are objects of JSON' -n '__fish_seen_subc
 complete -c zy_bench -l every -x -d 'Keep copies at multiples of N' -n '__fish_seen_subcommand_from debug'
 complete -c zy_bench -l ring -x -d 'Keep at most N copies' -n '__fish_seen_subcommand_from debug'
 complete -c zy_bench -l for -x -d 'What to look for' -n '__fish_seen_subcommand_from search find' \
-  -a 'differs aborted own killed badkey missing duplicate frozen nopage gone committed stuck deadlock'
+  -a 'differs aborted own killed badkey missing duplicate frozen nopage gone committed over stuck deadlock'
 complete -c zy_bench -l always -x -d 'What every state is to meet' -n '__fish_seen_subcommand_from search find'
 complete -c zy_bench -l from -x -d 'Take the first N choices as taken' -n '__fish_seen_subcommand_from search'
 complete -c zy_bench -l kill -d 'Transactions may be killed' -n '__fish_seen_subcommand_from search'
@@ -39,7 +39,7 @@ complete -c zplay -l no-open -d 'Open no browser'
 complete -c zplay -l help -s h -d 'Print help'
 
 complete -c zsuite -l all -x -d 'All shortest schedules, at most N'
-complete -c zsuite -l for -x -d 'What to look for' -a 'differs aborted own killed badkey missing duplicate frozen nopage gone committed stuck deadlock'
+complete -c zsuite -l for -x -d 'What to look for' -a 'differs aborted own killed badkey missing duplicate frozen nopage gone committed over stuck deadlock'
 complete -c zsuite -l always -x -d 'What every state is to meet'
 complete -c zsuite -l image -d 'The input is an image'
 complete -c zsuite -l from -x -d 'Take the first N choices as taken'

@@ -30,6 +30,17 @@ PROGRESS = r'(\r\d+ states, \d+ choices deep, \d+ states a second\x1b\[K)+\r\x1b
 EXPLAINED = 'zy_bench: the rows are those of '
 
 
+# The most choices of a scenario.
+MOST_CHOICES = 4096
+
+
+def no_dead_end(made, kills, steps):
+    """What is said of a run of some choices that a goal with `stuck` or `deadlock` found: how many kills, and how many steps of the nodes, end its migration."""
+    added = ['%d %s%s%s' % (count, word, 's' * (count != 1), of) for count, word, of in ((kills, 'kill', ''), (steps, 'step', ' of the nodes')) if count]
+    has_room = made + kills + steps <= MOST_CHOICES
+    return 'zy_bench: no dead end: zy_bench end adds %s\n' % ' and '.join(added) if added and has_room else ''
+
+
 def warning(word, number, count):
     """What precedes the report where a goal names a transaction, or a page, that the scenario does not have."""
     return 'zy_bench: the goal names %s %d, and the scenario has %s\n' % (word, number, 'only those below %d' % count if count else 'none')

@@ -15,7 +15,7 @@ GOAL    = EXPR [ then OUTCOME ] | then OUTCOME
 EXPR    = ALL { or ALL }
 ALL     = ONE { and ONE }
 ONE     = not ONE | '(' EXPR ')' | FACT
-FACT    = differs | stuck | deadlock | committed | aborted | WHY
+FACT    = differs | stuck | deadlock | over | committed | aborted | WHY
         | mode NODE MODE
         | page P ( at NODE | at LINK | moving | locked | absent )
         | txn ( T | any | all ) ( new | active | committed | aborted [ WHY ] | at NODE | wrote K )
@@ -219,10 +219,17 @@ def is_deadlocked(view):
         left = kept
 
 
+def is_over(view):
+    """Whether one node is normal, the other one empty, nothing is on a link, and nobody is active."""
+    modes = sorted(node.mode for node in view.state.nodes)
+    return modes == ['empty', 'normal'] and view.state.links == ((), ()) and all(txn.status != 'active' for txn in view.state.txns)
+
+
 PLAIN_FACTS = {
     'differs': View.differs,
     'stuck': is_stuck,
     'deadlock': is_deadlocked,
+    'over': is_over,
     'committed': lambda view: all(txn.status == 'committed' for txn in view.state.txns),
     'aborted': lambda view: any(txn.status == 'aborted' for txn in view.state.txns),
 }
@@ -255,6 +262,12 @@ def reads_ended(read):
     name, parts = read[:2]
     is_of_one = name == 'TERM' and parts[0] in ('reg', 'pc', 'done') or name == 'FACT' and parts[0] == 'txn' and 'at' in parts
     return is_of_one or any(reads_ended(part) for part in parts if isinstance(part, tuple))
+
+
+def takes_steps(read):
+    """Whether what was read of a goal has `stuck` or `deadlock`."""
+    name, parts = read[:2]
+    return name == 'FACT' and parts in (['stuck'], ['deadlock']) or any(takes_steps(part) for part in parts if isinstance(part, tuple))
 
 
 class Meaning:

@@ -31,6 +31,25 @@ def considered(scenario, kill, left_out=()):
     return [choice for choice in choices if choice[1] not in left_out]
 
 
+def onward(state):
+    """What the nodes do next to end a migration; None where none goes on."""
+    if any(state.links):
+        return 'B' if state.links[0] else 'A', 'take', None
+    doing = {'sdual': 'finish', 'sfinish': 'push'}
+    return next(((name, doing[node.mode], None) for name, node in zip('AB', state.nodes) if node.mode in doing), None)
+
+
+def way_out(scenario, state):
+    """The choices that end the migration from a state: the kills of the active transactions, and what the nodes do after them."""
+    kills, steps = [('C', 'kill', t) for t, txn in enumerate(state.txns) if txn.status == 'active'], []
+    for choice in kills:
+        state = step(scenario, state, choice)[1]
+    while choice := onward(state):
+        steps.append(choice)
+        state = step(scenario, state, choice)[1]
+    return kills, steps
+
+
 def whole(state):
     return state
 

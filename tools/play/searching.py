@@ -15,6 +15,7 @@ from play.desk import STOPPED
 GOALS = {
     'differs': 'the rows are not those of the commit order', 'deadlock': 'transactions wait in a cycle, each for a page that another one has locked',
     'stuck': 'a transaction is active, and no considered choice changes anything',
+    'over': 'no migration goes on, and no transaction is active',
     'committed': 'all transactions are committed', 'aborted': 'a transaction is aborted', 'gone': 'one is aborted, since its page has gone',
     'then waits': 'one waits for a lock', 'then pulls': 'one asks for a page', 'then held': 'a request is held, since its page is locked',
     'then got page': 'a page comes', 'txn any active and mode A sfinish': 'one is active while A pushes its pages', 'key 10 = 0': 'a value of a row',

@@ -4,11 +4,12 @@ ghost use Rattle.std.specs.Prelude.{◌<◌};
 use crate::again::{count_again, make_again, test_again};
 use crate::command_line::request::Quest;
 use crate::exit_status::{COMMAND_LINE, DONE, NOWHERE, SPENT};
-use crate::explained::explain_found;
+use crate::explained::{explain, found_again};
 use crate::marked::Marked;
 use crate::output::{Output, pass};
 use crate::progress::Progress;
 use crate::summary::{Count, Summary};
+use crate::way_out::tell_way_out;
 use std::alloc::Global;
 use std::fmt;
 use std::io::{Read, Write};
@@ -17,11 +18,13 @@ use std::time::Clock;
 use zy_engine::finding::find_input;
 use zy_engine::searching::search_input;
 use zy_engine::{BenchFault, Format, Question, SearchOptions};
+use zy_goals::commits::takes_steps;
 use zy_goals::named::{Named, named_by};
 use zy_goals::reading::{read_always, read_goal};
 use zy_goals::{GoalFault, Names};
 use zy_io::CountingReader;
 use zy_io::reading::read_all;
+use zy_isa::Choice;
 use zy_machine::Machine;
 use zy_ordering::names::names_of;
 use zy_search::{SearchAnswer, SearchReport, Sought};
@@ -185,6 +188,7 @@ fn search_all<R: Eprint + AllocGlobal + Clock + Threads + Sync, W: Write>(
     requires { output.old.sink.1 < u64.MAX }
 {
     let mut progress = Progress::new(rt, is_terminal);
+    let is_of_waits = takes_steps(&sought.goal);
     let question = Question {
         input: scenario,
         options: quest.options,
@@ -193,15 +197,17 @@ fn search_all<R: Eprint + AllocGlobal + Clock + Threads + Sync, W: Write>(
     let searched = search_input(rt, rt.alloc(), question, output, &mut progress);
     progress.clear();
     let report = searched?;
-    let told = tell_answer(rt, quest, scenario, &report, output);
+    let told = tell_answer(rt, quest, is_of_waits, scenario, &report, output);
     drop(report);
     told
 }
 
-/// Ends the output of a search, reports on standard error what came of it, and gives the exit status.
+/// Ends the output of a search, reports on standard error what came of it, and gives the exit status. `is_of_waits` says that
+/// its goal has `stuck` or `deadlock`.
 fn tell_answer<R: Eprint + AllocGlobal, W: Write>(
     rt: &R,
     quest: Quest<'_>,
+    is_of_waits: bool,
     scenario: &[u8],
     report: &SearchReport,
     output: &mut Output<W>,
@@ -212,12 +218,30 @@ fn tell_answer<R: Eprint + AllocGlobal, W: Write>(
     sum_up(rt, report, quest);
     Ok(match &report.answer {
         SearchAnswer::Found(path) => {
-            explain_found(rt, quest.options, scenario, path);
+            comment_found(rt, quest.options, is_of_waits, scenario, path);
             DONE
         }
         SearchAnswer::Nowhere => NOWHERE,
         SearchAnswer::Spent(_) => SPENT,
     })
+}
+
+/// Makes the choices that a search has found, and says on standard error which order explains the rows where that of the
+/// commits does not, and of a goal with `stuck` or `deadlock` how the migration ends from there. Out of memory it says nothing.
+fn comment_found<R: Eprint + AllocGlobal>(
+    rt: &R,
+    options: SearchOptions,
+    is_of_waits: bool,
+    scenario: &[u8],
+    found: &[Choice],
+) {
+    if let Ok(machine) = found_again(rt.alloc(), options, scenario, found) {
+        explain(rt, &machine);
+        if is_of_waits {
+            tell_way_out(rt, &machine);
+        }
+        machine.discard();
+    }
 }
 
 /// Writes the positions of a scenario's run at which its state shows what is looked for, and gives the exit status.

@@ -71,7 +71,7 @@ fn open_again(alloc: Global, format: Format, scenario: &[u8]) -> Result<Machine,
 }
 
 /// The machine of a scenario that has made the choices that a search has found.
-fn found_again(
+pub fn found_again(
     alloc: Global,
     options: SearchOptions,
     scenario: &[u8],
@@ -84,19 +84,6 @@ fn found_again(
             machine.discard();
             Err(BenchFault::from(fault))
         }
-    }
-}
-
-/// Makes the choices that a search has found, and says what `explain` says of that run.
-pub fn explain_found<R: Eprint + AllocGlobal>(
-    rt: &R,
-    options: SearchOptions,
-    scenario: &[u8],
-    found: &[Choice],
-) {
-    if let Ok(machine) = found_again(rt.alloc(), options, scenario, found) {
-        explain(rt, &machine);
-        machine.discard();
     }
 }
 

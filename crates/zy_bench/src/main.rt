@@ -27,6 +27,7 @@ mod refused_line;
 mod refused_object;
 mod summary;
 mod tally;
+mod way_out;
 
 use advised::{Advised, InputRead};
 use again::{line_due, scenario_part};

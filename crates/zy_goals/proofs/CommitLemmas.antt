@@ -41,6 +41,7 @@ module _ (s r : State) (rows : database s ≡ database r) (commits : s.commits �
   same_state_fact (state_fact.CommittedBefore t u) e = ap (committed_before t u) commits
   same_state_fact (state_fact.NoRow k) e = ap (λ (m : Map). not (is_some (get m k))) rows
   same_state_fact (state_fact.Link n x) e = absurd (false≢true e)
+  same_state_fact state_fact.Over e = absurd (false≢true e)
   same_state_fact (state_fact.Compare x c y) e =
       let both = and_parts (is_term_of_commits x) (is_term_of_commits y) e in
       ap (λ n. compares c n (value y s)) (same_value x both.0) ∙ ap (compares c (value x r)) (same_value y both.1)

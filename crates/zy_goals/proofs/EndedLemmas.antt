@@ -23,6 +23,7 @@ use Rattle.zy_goals.specs.declared.goal.Selector.{Selector}
 use Rattle.zy_goals.specs.declared.goal.Selector.TheVariants as selector
 use Rattle.zy_goals.specs.declared.goal.TxnProperty.{TxnProperty}
 use Rattle.zy_goals.specs.declared.goal.TxnProperty.TheVariants as property
+use Rattle.zy_goals.specs.declared.goal.LinkContent.TheVariants as content
 use Rattle.zy_goals.specs.declared.goal.Term.{Term}
 use Rattle.zy_goals.specs.declared.goal.Term.TheVariants as term
 use Rattle.zy_goals.specs.declared.goal.StateFact.{StateFact}
@@ -32,7 +33,7 @@ use Rattle.zy_goals.specs.declared.goal.Fact.TheVariants as fact
 use Rattle.zy_goals.specs.declared.goal.Goal.{Goal, Is, Not', And', Or'}
 use Rattle.zy_goals.specs.Txns.{is_aborted, has_property, selected_have}
 use Rattle.zy_goals.specs.Terms.{value, compares}
-use Rattle.zy_goals.specs.Facts.{holds_in}
+use Rattle.zy_goals.specs.Facts.{are_settled, has_content, holds_in}
 use Rattle.zy_goals.specs.Goals.{Context, holds, meets}
 use Rattle.zy_goals.specs.Ended.{term_reads_ended, property_reads_ended, state_fact_reads_ended, fact_reads_ended, reads_ended}
 
@@ -101,6 +102,9 @@ module _ (s : State) where
   live_state_fact (state_fact.NoRow k) e = ap (λ (m : Map). not (is_some (get m k))) live_database
   live_state_fact (state_fact.Link A x) e = refl
   live_state_fact (state_fact.Link B x) e = refl
+  live_state_fact state_fact.Over e =
+      ap (λ b. are_settled s.a.mode s.b.mode && has_content content.Empty s.ab && has_content content.Empty s.ba && not b)
+      (live_selected selector.Any property.Active s.txns refl)
   live_state_fact (state_fact.Compare x c y) e =
       let none = or_parts (term_reads_ended x) (term_reads_ended y) e in
       ap (λ n. compares c n (value y (part_of Live s))) (live_value x none.0) ∙ ap (compares c (value x s)) (live_value y none.1)

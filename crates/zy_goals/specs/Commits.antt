@@ -28,6 +28,7 @@ is_state_fact_of_commits (state_fact.Txns w x) = false
 is_state_fact_of_commits (state_fact.CommittedBefore t u) = true
 is_state_fact_of_commits (state_fact.NoRow k) = true
 is_state_fact_of_commits (state_fact.Link n x) = false
+is_state_fact_of_commits state_fact.Over = false
 is_state_fact_of_commits (state_fact.Compare x c y) = is_term_of_commits x && is_term_of_commits y
 
 -- the commits decide whether a fact of any kind holds

@@ -39,6 +39,7 @@ state_fact_reads_ended (state_fact.Txns w x) = property_reads_ended x
 state_fact_reads_ended (state_fact.CommittedBefore t u) = false
 state_fact_reads_ended (state_fact.NoRow k) = false
 state_fact_reads_ended (state_fact.Link n x) = false
+state_fact_reads_ended state_fact.Over = false
 state_fact_reads_ended (state_fact.Compare x c y) = term_reads_ended x || term_reads_ended y
 
 -- a fact does; `differs`, `stuck` and `deadlock` do not

@@ -1,5 +1,5 @@
 -- The facts that a state decides by itself.
-use Rattle.std.specs.Prelude.{ℕ, ◌==◌, ◌||◌, not, Bool, true, false, List, length, is_some}
+use Rattle.std.specs.Prelude.{ℕ, ◌==◌, ◌&&◌, ◌||◌, not, Bool, true, false, List, length, is_some}
 use Rattle.std.specs.List.{list_any}
 use Rattle.std.specs.FinMap.{get}
 use Rattle.zy_model.specs.declared.mode.NodeMode.{NodeMode}
@@ -18,6 +18,8 @@ use Rattle.zy_table.specs.Database.{database}
 use Rattle.zy_table.specs.Places.{place_of}
 use Rattle.zy_goals.specs.declared.goal.PagePlace.{PagePlace}
 use Rattle.zy_goals.specs.declared.goal.PagePlace.TheVariants as page_place
+use Rattle.zy_goals.specs.declared.goal.Selector.TheVariants as selector
+use Rattle.zy_goals.specs.declared.goal.TxnProperty.TheVariants as property
 use Rattle.zy_goals.specs.declared.goal.MessagePattern.{MessagePattern}
 use Rattle.zy_goals.specs.declared.goal.MessagePattern.TheVariants as pattern
 use Rattle.zy_goals.specs.declared.goal.LinkContent.{LinkContent}
@@ -79,6 +81,20 @@ abbrev pub has_content : LinkContent → List Message → Bool
 has_content content.Empty ms = length ms == 0
 has_content (content.Has x) ms = list_any (is_like x) ms
 
+-- ---- no migration
+
+-- of two modes one is Normal, and the other is Empty
+abbrev pub are_settled : NodeMode → NodeMode → Bool
+are_settled Normal Empty = true
+are_settled Empty Normal = true
+are_settled m n = false
+
+-- no migration goes on, and no transaction is active: the modes are settled, and no link has a message
+abbrev pub is_over : State → Bool
+is_over s =
+    are_settled s.a.mode s.b.mode && has_content content.Empty s.ab && has_content content.Empty s.ba
+    && not (selected_have selector.Any property.Active s.txns)
+
 -- ---- facts
 
 -- a fact holds in a state
@@ -91,4 +107,5 @@ holds_in (fact.Txns w x) s = selected_have w x s.txns
 holds_in (fact.CommittedBefore t u) s = committed_before t u s.commits
 holds_in (fact.NoRow k) s = not (is_some (get (database s) k))
 holds_in (fact.Link n x) s = has_content x (facing n s).outbox
+holds_in fact.Over s = is_over s
 holds_in (fact.Compare x c y) s = compares c (value x s) (value y s)

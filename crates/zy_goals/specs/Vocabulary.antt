@@ -125,6 +125,7 @@ lone_fact w =
     if bytes_eq w (codes "differs") then Some fact.Differs else
     if bytes_eq w (codes "stuck") then Some fact.Stuck else
     if bytes_eq w (codes "deadlock") then Some fact.Deadlock else
+    if bytes_eq w (codes "over") then Some (fact.OfState state_fact.Over) else
     if bytes_eq w (codes "committed") then Some (fact.OfState (state_fact.Txns selector.All property.Committed)) else
     if bytes_eq w (codes "aborted") then Some (aborted reason.Any) else
     option_map aborted (why w)

@@ -32,6 +32,7 @@ fn is_state_fact_of_commits(fact: StateFact) -> bool
         StateFact::CommittedBefore { .. } => true,
         StateFact::NoRow(_) => true,
         StateFact::Link(_, _) => false,
+        StateFact::Over => false,
         StateFact::Compare(left, _, right) => {
             is_term_of_commits(left) && is_term_of_commits(right)
         }

@@ -46,6 +46,7 @@ fn state_fact_reads_ended(fact: StateFact) -> bool
         StateFact::CommittedBefore { .. } => false,
         StateFact::NoRow(_) => false,
         StateFact::Link(_, _) => false,
+        StateFact::Over => false,
         StateFact::Compare(left, _, right) => term_reads_ended(left) || term_reads_ended(right),
     }
 }

@@ -5,7 +5,7 @@ ghost use Rattle.zy_model.specs.Locks as locks_locks;
 ghost use Rattle.zy_links.specs.Messages.{message_of, messages_of};
 ghost use Rattle.zy_goals.specs.Facts as spec;
 
-use crate::goal::{LinkContent, MessagePattern, PagePlace, StateFact};
+use crate::goal::{LinkContent, MessagePattern, PagePlace, Selector, StateFact, TxnProperty};
 use crate::terms::{compares, value};
 use crate::txns::{committed_before, same_node, selected_have};
 use zy_isa::Node;
@@ -120,6 +120,27 @@ fn has_content(content: LinkContent, link: &Link) -> bool
     }
 }
 
+/// Whether of two modes one is `normal`, and the other is `empty`.
+fn are_settled(m: NodeMode, n: NodeMode) -> bool
+    ensures { result ≡ spec.are_settled m n }
+{
+    match (m, n) {
+        (NodeMode::Normal, NodeMode::Empty) => true,
+        (NodeMode::Empty, NodeMode::Normal) => true,
+        _ => false,
+    }
+}
+
+/// Whether in a machine's state no migration goes on and no transaction is active.
+fn is_over(machine: &Machine) -> bool
+    ensures { result ≡ spec.is_over machine.now.state }
+{
+    are_settled(machine.mode(Node::A), machine.mode(Node::B))
+        && machine.link(Node::A).is_empty()
+        && machine.link(Node::B).is_empty()
+        && !selected_have(Selector::Any, TxnProperty::Active, machine)
+}
+
 /// Whether a fact holds in a machine's state.
 pub fn holds_in(fact: StateFact, machine: &Machine) -> bool
     ensures { result ≡ spec.holds_in fact machine.now.state }
@@ -139,6 +160,7 @@ pub fn holds_in(fact: StateFact, machine: &Machine) -> bool
         }
         StateFact::NoRow(key) => machine.value(key).is_none(),
         StateFact::Link(n, content) => has_content(content, machine.link(n)),
+        StateFact::Over => is_over(machine),
         StateFact::Compare(left, comparison, right) => {
             compares(comparison, value(left, machine), value(right, machine))
         }

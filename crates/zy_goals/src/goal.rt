@@ -144,6 +144,9 @@ pub enum StateFact {
     NoRow(u16),
     /// The link from this node has this content.
     Link(Node, LinkContent),
+    /// No migration goes on, and no transaction is active: one node is in `normal`, the other in `empty`, and no message is
+    /// on a link.
+    Over,
     /// One number compares so with another.
     Compare(Term, Comparison, Term),
 }
@@ -151,7 +154,7 @@ pub enum StateFact {
 /// A fact, which holds in a state or does not.
 #[derive(Clone, Copy)]
 pub enum Fact {
-    /// The pages have other rows than the committed programs leave, run one by one in the order of their commits.
+    /// The pages have other rows than the committed transactions leave, run one by one in the order of their commits.
     Differs,
     /// A transaction is active, and nothing comes of any considered choice. The caller says which choices those are.
     Stuck,

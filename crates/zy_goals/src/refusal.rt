@@ -54,7 +54,7 @@ impl fmt::Display for ExpectedInGoal {
         let words = match self {
             ExpectedInGoal::Fact => concat!(
                 "a fact begins with mode, page, txn, link, key, sum, reg, pc, done, commits or a number, ",
-                "or is one of differs, stuck, deadlock, committed, aborted, own, killed, badkey, missing, ",
+                "or is one of differs, stuck, deadlock, over, committed, aborted, own, killed, badkey, missing, ",
                 "duplicate, frozen, nopage and gone"
             ),
             ExpectedInGoal::Operator => "after a fact comes and, or, then, ) or the end",

@@ -16,3 +16,4 @@ pub mod LastLemmas
 pub mod DepthLemmas
 pub mod DeadlockLemmas
 pub mod AlongLemmas
+pub mod OverLemmas

@@ -5,12 +5,14 @@ ghost use Rattle.zy_isa.specs.declared.rule.Rule.TheVariants.{Held};
 ghost use Rattle.zy_isa.specs.Scenario.{IsScenario, Scenario as AScenario};
 ghost use Rattle.zy_machine.specs.Histories.{History, IsReplay};
 ghost use Rattle.zy_machine.specs.Alike.{Alike};
-ghost use Rattle.zy_table.specs.Play.{play, step};
+ghost use Rattle.zy_laws.specs.WayOut.{Over};
+ghost use Rattle.zy_table.specs.Play.{opening, play, step};
 ghost use Rattle.zy_table.specs.State.{State};
 ghost use Rattle.zy_search.specs.declared.sought.Sought.{Sought};
 ghost use Rattle.zy_goals.specs.declared.goal.Fact.TheVariants.{Differs};
 ghost use Rattle.zy_goals.specs.declared.goal.Goal.{Is};
 ghost use Rattle.zy_goals.specs.declared.outcomes.OutcomePattern.{OutcomePattern as APattern};
+ghost use Rattle.zy_goals.specs.Facts.{is_over};
 ghost use Rattle.zy_goals.specs.Goals.{meets};
 ghost use Rattle.zy_search.specs.Possible.{gives};
 ghost use Rattle.zy_search.specs.Schedules.{scheduled, before_last, ending};
@@ -82,4 +84,12 @@ pub fn deadlock_is_cycle()
         → (test : AWait → Bool) × IsCycle sc s test }
     ensures each { (sc : AScenario) (s : State) (test : AWait → Bool) → IsCycle sc s test
         → is_deadlocked sc s ≡ true }
+{}
+
+/// A state that choices lead to is `over` if and only if its migration has ended as the laws say: no transaction is active,
+/// and nothing is left of the migration at the node that is empty.
+pub fn over_leaves_nothing()
+    ensures only { (sc : AScenario) → IsScenario sc → (cs : List AChoice)
+        → let s = play sc (opening sc) cs in is_over s ≡ true → Over s }
+    ensures each { (s : State) → Over s → is_over s ≡ true }
 {}

@@ -150,6 +150,7 @@ pub fn lone_fact(word: &[u8]) -> Option<Fact>
         b"differs" => Fact::Differs,
         b"stuck" => Fact::Stuck,
         b"deadlock" => Fact::Deadlock,
+        b"over" => Fact::OfState(StateFact::Over),
         b"committed" => Fact::OfState(StateFact::Txns(Selector::All, TxnProperty::Committed)),
         b"aborted" => aborted(AbortReason::Any),
         else match reason(word) {
