@@ -15,14 +15,14 @@ ghost use Rattle.zy_debug.specs.Sessions.{Shows, goes};
 use crate::checkpoints::{Checkpoints, farther};
 use crate::command::{Command, DebugFault, Reply, Shown};
 use crate::copies::Copies;
+use crate::scan::{cont, last_firing};
+use crate::{Stop, Stops};
 use std::alloc::{AllocError, Global};
 use std::marker::Model;
 use std::mem::swap;
 use zy_isa::Scenario;
 use zy_machine::Machine;
 use zy_machine::replay::{restart, start};
-use crate::scan::{cont, last_firing};
-use crate::{Stop, Stops};
 
 /// A scenario, a position in its choices, and stops.
 #[derive(Drop)]

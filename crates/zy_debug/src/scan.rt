@@ -4,9 +4,9 @@ ghost use Rattle.zy_machine.specs.Replays.{Follows};
 ghost use Rattle.zy_debug.specs.Scans.{Conts, LastIn, watch_of};
 ghost use Rattle.zy_debug.specs.Stops as spec;
 
-use zy_machine::replay::advance;
 use crate::stop::{Reading, Stop, slot_reading};
 use std::alloc::Global;
+use zy_machine::replay::advance;
 use zy_machine::{Fault, Machine};
 use zy_table::Outcome;
 

@@ -18,10 +18,10 @@ use zy_asm::assembling::assemble_bytes;
 use zy_disasm::ScenarioHead;
 use zy_io::{AllLines, LineBuffer, MAX_INPUT, One, Section, Sink, TextFault, sections};
 use zy_isa::{Choice, Scenario};
+use zy_machine::replay::{advance_to, start};
 use zy_machine::{Fault, Machine};
 use zy_search::search::search;
 use zy_search::{Limits, SearchAnswer, SearchReport, Sought, Watch};
-use zy_machine::replay::{advance_to, start};
 use zy_text::Each;
 
 /// What a search goes by, beside what it looks for.

@@ -9,11 +9,11 @@ use crate::lines::final_state::FinalState;
 use crate::lines::serial::SerialLine;
 use crate::lines::step::Steps;
 use crate::lines::taken::Taken;
-use zy_serial::serial::same;
 use std::alloc::Global;
 use zy_disasm::ScenarioHead;
 use zy_io::{AllLines, LineBuffer, One, Section, Sink, TextFault, sections};
 use zy_machine::Machine;
+use zy_serial::serial::same;
 
 /// Writes the listing of a machine, a line at a time; `same` is what the test against the serial run says.
 pub(crate) fn write_listing_as<K: Sink>(

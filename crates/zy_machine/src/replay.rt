@@ -3,9 +3,9 @@ ghost use Rattle.std.specs.Prelude.{◌≡◌, ◌<◌, ◌≤◌, ◌+◌, [], 
 ghost use Rattle.zy_machine.specs.Replays.{Follows};
 ghost use Rattle.zy_machine.specs.Replays.{outcome_at};
 
+use crate::machine::{Fault, Machine};
 use std::alloc::Global;
 use zy_isa::Scenario;
-use crate::machine::{Fault, Machine};
 use zy_table::Outcome;
 
 /// Makes the next choice of the machine's scenario.

@@ -15,8 +15,8 @@ use zy_listing::lines::page::page_line;
 use zy_listing::lines::txn::txn_line;
 use zy_listing::listing::write_listing;
 use zy_listing::run::write_run;
-use zy_serial::serial::{same, serial};
 use zy_machine::Machine;
+use zy_serial::serial::{same, serial};
 
 /// More bytes than a call writes.
 const ROOM: usize = 65536;

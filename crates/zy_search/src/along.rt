@@ -8,8 +8,8 @@ use crate::shows::shows_all;
 use crate::sought::{Sought, deepest};
 use std::alloc::Global;
 use zy_isa::Scenario;
-use zy_machine::{Fault, Machine};
 use zy_machine::replay::{advance_to, start};
+use zy_machine::{Fault, Machine};
 
 /// Makes the choices of a machine that has made none yet, and gives the positions at which its state shows what is
 /// looked for.

@@ -8,11 +8,11 @@ ghost use Rattle.zy_machine.specs.Histories.{choices_of};
 ghost use Rattle.zy_table.specs.Database.{database};
 ghost use Rattle.zy_table.specs.Serial.{serial};
 
+use crate::laws::always_same;
 use crate::order::migration_order;
+use crate::serial::same;
 use std::alloc::Global;
 use zy_isa::Rule;
-use crate::laws::always_same;
-use crate::serial::same;
 use zy_machine::{Fault, Machine};
 use zy_table::CommitRecord;
 

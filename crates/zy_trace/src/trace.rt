@@ -17,9 +17,9 @@ use std::alloc::{AllocError, Global};
 use zy_disasm::ScenarioHead;
 use zy_io::{AllLines, LineBuffer, One, Section, Sink, TextFault, sections};
 use zy_isa::Scenario;
-use zy_serial::serial::same;
 use zy_listing::{FinalState, SerialLine};
 use zy_machine::Machine;
+use zy_serial::serial::same;
 use zy_text::Each;
 
 /// Appends the lines of a machine's state.
