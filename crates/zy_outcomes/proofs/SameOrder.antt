@@ -20,8 +20,8 @@ use Rattle.zy_table.specs.declared.outcome.Outcome.{Outcome}
 use Rattle.zy_table.specs.declared.outcome.Outcome.TheVariants as outcome
 use Rattle.zy_laws.specs.RealTime.{place}
 use Rattle.zy_laws.specs.SourceFirst.{at_node, commits_at, migration_order}
-use Rattle.zy_laws.proofs.serial.Listed.{listed}
 use Rattle.zy_laws.proofs.serial.Committing.{committed_list, committed_txns}
+use Rattle.zy_laws.proofs.serial.Listed.{listed}
 use Rattle.zy_laws.proofs.sources.BeginOrder.{begins_in_order}
 use Rattle.zy_laws.proofs.sources.ByNode.{AllCommitted, all_after, at_of, at_same_txns, stays}
 use Rattle.zy_laws.proofs.sources.Histories.{was_new}
@@ -147,22 +147,22 @@ module _ (at : ℕ → Node) (rank : ℕ → ℕ) (all : List CommitRecord) (onc
   falls front [] is = tt
   falls front (c ∷ rest) is =
       let first : (u : ℕ) → has (those (other (at c.txn)) at rest) u ≡ true → rank u < rank c.txn = λ u h.
-          let behind = those_listed (other (at c.txn)) at rest u h in
-          let late = behind.0 in
-          let parts : times_listed u all ≡ times_listed u front + times_listed u (c ∷ rest) = ap (times_listed u) is ∙ listed_both u front (c ∷ rest) in
-          let own : times_listed c.txn all ≡ times_listed c.txn front + times_listed c.txn (c ∷ rest) =
-          ap (times_listed c.txn) is ∙ listed_both c.txn front (c ∷ rest) in
-          let one : times_listed c.txn (c ∷ rest) ≡ 1 + times_listed c.txn rest =
-          ap (λ b. (if b then 1 else 0) + times_listed c.txn rest) (eq-eqb c.txn c.txn refl) in
-          let most = once u in
-          elim (apart c.txn u (omega (arith, own, one)) (omega (arith, parts, late)) behind.1) [
-            | inl less ↦ less
-            | inr wrong ↦
-                let x = subst (λ xs. place c.txn xs ≤ length front) (sym is) (place_most c front rest) in
-                let none : times_listed u front ≡ 0 = omega (arith, parts, late, most) in
-                let y = subst (λ xs. length front ≤ place u xs) (sym is) (place_back u front (c ∷ rest) none) in
-                absurd (omega (arith, x, y, wrong))
-          ] in
+      let behind = those_listed (other (at c.txn)) at rest u h in
+      let late = behind.0 in
+      let parts : times_listed u all ≡ times_listed u front + times_listed u (c ∷ rest) = ap (times_listed u) is ∙ listed_both u front (c ∷ rest) in
+      let own : times_listed c.txn all ≡ times_listed c.txn front + times_listed c.txn (c ∷ rest) =
+      ap (times_listed c.txn) is ∙ listed_both c.txn front (c ∷ rest) in
+      let one : times_listed c.txn (c ∷ rest) ≡ 1 + times_listed c.txn rest =
+      ap (λ b. (if b then 1 else 0) + times_listed c.txn rest) (eq-eqb c.txn c.txn refl) in
+      let most = once u in
+      elim (apart c.txn u (omega (arith, own, one)) (omega (arith, parts, late)) behind.1) [
+        | inl less ↦ less
+        | inr wrong ↦
+            let x = subst (λ xs. place c.txn xs ≤ length front) (sym is) (place_most c front rest) in
+            let none : times_listed u front ≡ 0 = omega (arith, parts, late, most) in
+            let y = subst (λ xs. length front ≤ place u xs) (sym is) (place_back u front (c ∷ rest) none) in
+            absurd (omega (arith, x, y, wrong))
+      ] in
       (first, falls (front ++ c ∷ []) rest (is ∙ sym (append_assoc front (c ∷ []) rest)))
 
 -- ---- the commits of a run
@@ -435,10 +435,10 @@ order_falls sc l cs =
     let count : (t : ℕ) → times_listed t order ≡ (if is_committed (txn_of s t).status then 1 else 0) =
     λ t. listed_permuted t s.commits order (serial_source_first sc l cs).permuted ∙ listed sc cs t in
     let ended : (t : ℕ) → 1 ≤ times_listed t order → is_committed (txn_of s t).status ≡ true = λ t h.
-        elim (cases_Bool (is_committed (txn_of s t).status)) [
-          | inl is ↦ is
-          | inr off ↦ let none = count t ∙ ap (λ b. if b then 1 else 0) off in absurd (omega (arith, none, h))
-        ] in
+    elim (cases_Bool (is_committed (txn_of s t).status)) [
+      | inl is ↦ is
+      | inr off ↦ let none = count t ∙ ap (λ b. if b then 1 else 0) off in absurd (omega (arith, none, h))
+    ] in
     let new : (t : ℕ) → fresh_in (opening sc) t ≡ true = λ t. ap (λ (x : Txn). is_new x.status) (blank_at sc.programs t) in
     falls (homes s) (λ t. behind t (begins_of (entries sc (opening sc) cs))) order
     (λ u. let k = count u in cond_both (is_committed (txn_of s u).status) 1 0 (λ n. times_listed u order ≡ n → times_listed u order ≤ 1)

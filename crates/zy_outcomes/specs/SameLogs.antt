@@ -19,15 +19,18 @@ abbrev pub who_commits : Node → Choice → Outcome → List ℕ
 who_commits n (Run m t) (Committed i) = if same_node m n then t ∷ [] else []
 who_commits n c o = []
 
--- those that begin, in the order in which they do: the client's log has it
-abbrev pub begins_of : List Entry → List ℕ
-begins_of [] = []
-begins_of (e ∷ es) = who_begins e.choice e.outcome ++ begins_of es
+-- whom each of these entries names, in their order
+abbrev pub named_by : (Choice → Outcome → List ℕ) → List Entry → List ℕ
+named_by who [] = []
+named_by who (e ∷ es) = who e.choice e.outcome ++ named_by who es
 
--- those that commit at node n, in the order in which they do: the log of n has it
+-- the transactions that begin, in the order in which they do: that of the client's log
+abbrev pub begins_of : List Entry → List ℕ
+begins_of es = named_by who_begins es
+
+-- those that commit at node n, in the order in which they do: that of the log of n
 abbrev pub commits_of : Node → List Entry → List ℕ
-commits_of n [] = []
-commits_of n (e ∷ es) = who_commits n e.choice e.outcome ++ commits_of n es
+commits_of n es = named_by (who_commits n) es
 
 -- the logs of two runs have the same begins and, at each node, the same commits, in the same order
 pub record SameLogs (one other : List Entry) : Type 0 where
