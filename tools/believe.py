@@ -34,8 +34,8 @@ PARTS = [
     ('Goals and the search', 'What `search`, `find` and `end` answer, and what the words of a goal mean.', [],
      ['zy_engine/src/searching.rt', 'zy_engine/src/finding.rt', 'zy_engine/src/ending.rt', 'zy_goals/src/reading.rt', 'zy_search/src/search.rt', 'zy_search/src/laws.rt']),
     ('Logs', 'What lines of logs say, which order fits them, and what `order` does.', [],
-     ['zy_logs/src/logs.rt', 'zy_logs/src/log_line.rt', 'zy_logs/src/laws.rt', 'zy_order/src/order.rt', 'zy_ordering/src/ordering.rt',
-      'zy_ordering/src/behind.rt', 'zy_ordering/src/laws.rt', 'zy_json/src/laws.rt']),
+     ['zy_logs/src/logs.rt', 'zy_logs/src/log_line.rt', 'zy_logs/src/laws.rt', 'zy_order/src/order.rt', 'zy_order_laws/src/laws.rt',
+      'zy_ordering/src/ordering.rt', 'zy_ordering/src/behind.rt', 'zy_ordering/src/laws.rt', 'zy_json/src/laws.rt']),
 ]
 
 HEAD = '''# What must be believed
