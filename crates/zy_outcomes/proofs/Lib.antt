@@ -8,3 +8,4 @@ pub mod Coming
 pub mod RunsAlone
 pub mod Taken
 pub mod GetsOn
+pub mod SameOrder

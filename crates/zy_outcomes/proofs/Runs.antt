@@ -84,6 +84,16 @@ Brings sc t (outcome.Awaits p) v w = Waits v w
 Brings sc t outcome.NotYet v w = Waits v w
 Brings sc t o v w = Unit {0}
 
+-- which commits there are after a run of t at n: a new one is its own, and t ran there
+abbrev pub Lists : Node → ℕ → Outcome → View → View → Type 0
+Lists n t (outcome.Committed i) v w = RunsAt v t n × (w ≡ committed t v)
+Lists n t o v w = w.commits ≡ v.commits
+
+-- where nothing was done, there is no new one
+lists_none : (n : Node) (t : ℕ) (o : Outcome) (v : View) → counted o ≡ 0 → Lists n t o v v
+lists_none n t (outcome.Committed i) v e = cc
+lists_none n t o v e = refl
+
 -- equal nodes pass the test
 pub same_node-same : (a b : Node) → a ≡ b → same_node a b ≡ true
 same_node-same A A e = refl
@@ -156,13 +166,14 @@ module _ (sc : Scenario) (n : Node) (t : ℕ) where
     pub inbox : m.after.inbox ≡ v.inbox
     pub awaited : IsAwaited m.outcome m.after.me
     pub brings : Brings sc t m.outcome v m.after
+    pub lists : Lists n t m.outcome v m.after
     pub runs : RunsAt v t n → HasNext sc t v → is_of_run m.outcome ≡ true
 
   -- nothing changes
   rests : (v : View) (o : Outcome) → HasReason sc n v (Run n t) o → counted o ≡ 0 → IsNumbered o v.commits → IsAwaited o v.me → Brings sc t o v v
       → (RunsAt v t n → HasNext sc t v → is_of_run o ≡ true) → Tells v (quiet v o)
   rests v o reason none number awaited brings runs =
-      record { reason = reason; fares = Stays refl none; sent = refl; number = number; inbox = refl; awaited = awaited; brings = brings; runs = runs }
+      record { reason = reason; fares = Stays refl none; sent = refl; number = number; inbox = refl; awaited = awaited; brings = brings; lists = lists_none n t o v none; runs = runs }
 
   -- t aborts
   aborts : (v : View) (y : Why) → RunsAt v t n → HasCause sc n v (Run n t) t y → Tells v (abort_step t y v)
@@ -175,6 +186,7 @@ module _ (sc : Scenario) (n : Node) (t : ℕ) where
     inbox = refl;
     awaited = tt;
     brings = ap (λ (x : Txn). x.status) (at_self v _ t _ refl at.0);
+    lists = refl;
     runs = λ _ _. refl;
   }
 
@@ -187,9 +199,9 @@ module _ (sc : Scenario) (n : Node) (t : ℕ) where
 
   -- t does an instruction, with its locks taken before
   goes_on : (v w : View) (pc : ℕ) (regs : List ℕ) (rows : List Row) → RunsAt v t n → w.txns ≡ v.txns → w.outbox ≡ v.outbox → w.inbox ≡ v.inbox
-      → Tells v (quiet (did t pc regs rows w) outcome.Did)
+      → w.commits ≡ v.commits → Tells v (quiet (did t pc regs rows w) outcome.Did)
   unfolding did txn_at
-  goes_on v w pc regs rows at same out front = let x = txn_at w t in let y : Txn = record x { pc = pc; regs = regs; rows = rows; done = x.done + 1 } in record {
+  goes_on v w pc regs rows at same out front all = let x = txn_at w t in let y : Txn = record x { pc = pc; regs = regs; rows = rows; done = x.done + 1 } in record {
     reason = tt;
     fares = Goes y at.0 (ap (λ xs. slice_set xs t y) same) (ap (λ xs. (txn_or (slice_get xs t)).done + 1) same) (λ h. absurd (false≢true (sym h)));
     sent = out;
@@ -197,6 +209,7 @@ module _ (sc : Scenario) (n : Node) (t : ℕ) where
     inbox = front;
     awaited = tt;
     brings = tt;
+    lists = all;
     runs = λ _ _. refl;
   }
 
@@ -226,6 +239,7 @@ module _ (sc : Scenario) (n : Node) (t : ℕ) where
           new = owns-with_page (length v.me.lows) _ _ ∙ or_left _ _ (eq-eqb (length v.me.lows) _ refl);
           kept = λ q own. owns-with_page q _ _ ∙ or_right _ _ (owns-lowered _ _ v.me.pages q ∙ own);
         };
+        lists = refl;
         runs = λ _ _. refl;
       }))
 
@@ -238,7 +252,7 @@ module _ (sc : Scenario) (n : Node) (t : ℕ) where
       cond_both (is_there k p v.me (txn_at v t)) _ _ (Tells v)
       (λ there. aborts_locked v p Exclusive why.Duplicate at (refl, (k, x, next, there)))
       (λ new. cond_both (has_room sc p v.me (txn_at v t)) _ _ (Tells v)
-      (λ _. goes_on v (locked t p Exclusive v) _ _ _ at refl refl refl)
+      (λ _. goes_on v (locked t p Exclusive v) _ _ _ at refl refl refl refl)
       (λ full. full_tells v k x at (k, x, next, refl, new, full)))
 
   -- a write that has its lock
@@ -248,14 +262,14 @@ module _ (sc : Scenario) (n : Node) (t : ℕ) where
   write_tells v k x at next =
       let p = page_of v.me.lows k in
       cond_both (is_there k p v.me (txn_at v t)) _ _ (Tells v)
-      (λ _. goes_on v (locked t p Exclusive v) _ _ _ at refl refl refl)
+      (λ _. goes_on v (locked t p Exclusive v) _ _ _ at refl refl refl refl)
       (λ none. aborts_locked v p Exclusive why.Missing at (refl, (k, x, next, none)))
 
   -- an access that has its lock
   access_tells : (v : View) (i : Access) (k : ℕ) → RunsAt v t n → Next sc t v (effect.Accesses i k)
       → Tells v (access_step sc t i k (page_of v.me.lows k) (locked t (page_of v.me.lows k) (lock_of i) v))
   unfolding access_step read_step locked
-  access_tells v (access.Reads r) k at next = goes_on v (locked t (page_of v.me.lows k) Shared v) _ _ _ at refl refl refl
+  access_tells v (access.Reads r) k at next = goes_on v (locked t (page_of v.me.lows k) Shared v) _ _ _ at refl refl refl refl
   access_tells v (access.Writes x) k at next = write_tells v k x at next
   access_tells v (access.Inserts x) k at next = insert_tells v k x at next
 
@@ -276,6 +290,7 @@ module _ (sc : Scenario) (n : Node) (t : ℕ) where
         inbox = refl;
         awaited = has_put_new p v.me.asked;
         brings = record { txns = refl; mode = refl; lows = refl; pages = refl };
+        lists = refl;
         runs = λ _ _. refl;
       }))
 
@@ -301,7 +316,7 @@ module _ (sc : Scenario) (n : Node) (t : ℕ) where
   sum_waits_tells v r a b (Some p) at next e here =
       let f = found_has (λ z. conflict v.me.locks z t Shared) (range_pages v.me.lows a b) p (sym e) in
       rests v (outcome.Waits p) (t, Shared, record { run = refl; does = effect.Sums r a b; next = next; needs = (f.0, refl) }, here p f.0, f.1) refl tt tt tt (λ _ _. refl)
-  sum_waits_tells v r a b None at next e here = goes_on v (shares t (range_pages v.me.lows a b) v) _ _ _ at refl refl refl
+  sum_waits_tells v r a b None at next e here = goes_on v (shares t (range_pages v.me.lows a b) v) _ _ _ at refl refl refl refl
 
   -- a sum with keys
   sum_tells : (v : View) (r : Reg) (a b : ℕ) (o : Option ℕ) → RunsAt v t n → Next sc t v (effect.Sums r a b)
@@ -318,7 +333,7 @@ module _ (sc : Scenario) (n : Node) (t : ℕ) where
   unfolding range_step set_step
   range_tells v r a b at next =
       cond_both (nat_lt b a) _ _ (Tells v)
-      (λ _. goes_on v v _ _ _ at refl refl refl)
+      (λ _. goes_on v v _ _ _ at refl refl refl refl)
       (λ rises. cond_both (nat_lt max_key b) _ _ (Tells v)
       (λ bad. aborts v why.BadKey at (effect.Sums r a b, refl, next, (rises, bad)))
       (λ _. sum_tells v r a b _ at next refl))
@@ -338,14 +353,15 @@ module _ (sc : Scenario) (n : Node) (t : ℕ) where
     inbox = refl;
     awaited = tt;
     brings = tt;
+    lists = (at, refl);
     runs = λ _ _. refl;
   }
 
   -- each effect
   effect_tells : (v : View) (e : Effect) → RunsAt v t n → Next sc t v e → Tells v (effect_step sc t e v)
   unfolding effect_step set_step jump_step commit_step
-  effect_tells v (effect.Sets r x) at next = goes_on v v _ _ _ at refl refl refl
-  effect_tells v (effect.Jumps taken to) at next = goes_on v v _ _ _ at refl refl refl
+  effect_tells v (effect.Sets r x) at next = goes_on v v _ _ _ at refl refl refl refl
+  effect_tells v (effect.Jumps taken to) at next = goes_on v v _ _ _ at refl refl refl refl
   effect_tells v (effect.Accesses i k) at next = key_tells v i k at next
   effect_tells v (effect.Sums r a b) at next = range_tells v r a b at next
   effect_tells v effect.Commits at next = commit_tells v _ at next refl

@@ -1,7 +1,7 @@
 -- What each step tells: the reason of its outcome, what becomes of each transaction, and what is sent.
 use Rattle.std.proofs.Common.{◌≡◌, ℕ, ◌+◌, ◌≤◌, List, [], ◌∷◌, true, false, refl, sym, ap, ◌∙◌, subst, inl, inr, arith, zero, suc}
-use Rattle.std.specs.Prelude.{length, Bool, if◌then◌else◌, ◌==◌, ◌&&◌, not, Some, None, Option, slice_get, slice_set, is_some, unwrap_or}
-use Rattle.std.proofs.lemmas.Bool.{cond_both, false≢true, not-false, not-true, and_parts, cases_eq, eq-eqb, ne_eqb}
+use Rattle.std.specs.Prelude.{length, Bool, if◌then◌else◌, ◌==◌, ◌&&◌, not, Some, None, Option, slice_get, slice_set, is_some, unwrap_or, ◌⊎◌}
+use Rattle.std.proofs.lemmas.Bool.{cond_both, false≢true, not-false, not-true, and_parts, cases_eq, eq-eqb, ne_eqb, or_cases, eqb-true}
 use Rattle.zy_isa.specs.Scenario.{Scenario}
 use Rattle.zy_isa.specs.declared.choice.Choice.{Choice}
 use Rattle.zy_isa.specs.declared.choice.Choice.TheVariants.{Start, Begin, Kill, Run, Take, Finish as Finish_at, Push}
@@ -20,7 +20,7 @@ use Rattle.zy_model.specs.declared.table.MessageLine.{MessageLine}
 use Rattle.zy_model.specs.declared.table.MessageLine.TheVariants.{Stray, Turns}
 use Rattle.zy_table.specs.Change.{aborted, begun, leaves, nobody, quiet, txn_at, txn_or}
 use Rattle.zy_table.specs.Client.{begin_at, begin_step, is_active, is_new, kill_step, start_step}
-use Rattle.zy_table.specs.Numbers.{least}
+use Rattle.zy_table.specs.Numbers.{least, has}
 use Rattle.zy_table.specs.Pages.{leaf_at, owns}
 use Rattle.zy_table.specs.Play.{move, side_of, step}
 use Rattle.zy_table.specs.Push.{active_from, finish_if, finish_step, push_if, push_step}
@@ -32,11 +32,12 @@ use Rattle.zy_table.specs.declared.outcome.Outcome.{Outcome}
 use Rattle.zy_table.specs.declared.outcome.Outcome.TheVariants as outcome
 use Rattle.zy_laws.proofs.owner.MovingPages.{owns-without}
 use Rattle.zy_laws.proofs.walk.Events.{same_node-true}
-use Rattle.zy_laws.proofs.walk.Txns.{at_either, at_other, at_same, at_self, at_side}
-use Rattle.zy_outcomes.proofs.Runs.{Fares, Goes, Stays, Tells, run_tells, same_node-same}
+use Rattle.zy_laws.proofs.walk.Txns.{at_either, at_other, at_same, at_self, at_side, not_new}
+use Rattle.zy_outcomes.proofs.Runs.{Fares, Goes, Stays, Tells, run_tells, same_node-same, Lists}
 use Rattle.zy_outcomes.specs.Accounts.{Accounts, IsNumbered, Says, counted, is_did, runs}
 use Rattle.zy_outcomes.specs.Coming.{IsAwaited}
 use Rattle.zy_outcomes.specs.Reasons.{HasReason, RunsAt}
+use Rattle.zy_outcomes.specs.SameLogs.{who_begins}
 
 -- ---- the lowest active transaction
 
@@ -93,6 +94,57 @@ Stale v w = (p : ℕ) (ms : List Message) → v.inbox ≡ Pull p ∷ ms → w.in
 none_taken : (v : View) (x : NodeState) (p : ℕ) (ms : List Message) → v.inbox ≡ Pull p ∷ ms → v.inbox ≡ ms → x ≡ v.me → owns v.me.pages p ≡ false
 none_taken v x p ms f e h = let a = ap length f in let b = ap length e in absurd (omega (arith, a, b))
 
+-- which commits there are after a choice: a new one is that of a run
+abbrev pub ListsBy : Choice → Outcome → View → View → Type 0
+ListsBy (Run n t) o v w = Lists n t o v w
+ListsBy c o v w = w.commits ≡ v.commits
+
+-- who begins was new, who was new still is, but for who begins, and a new commit is that of a run
+pub record Logs (c : Choice) (o : Outcome) (v w : View) : Type 0 where
+  pub begun : (u : ℕ) → has (who_begins c o) u ≡ true → is_new (txn_at v u).status ≡ true
+  pub new : (u : ℕ) → is_new (txn_at v u).status ≡ true → (is_new (txn_at w u).status ≡ true) ⊎ (who_begins c o ≡ u ∷ [])
+  pub lists : ListsBy c o v w
+
+-- where nobody begins, and no transaction changes
+same_logs : (c : Choice) (o : Outcome) (v w : View) → who_begins c o ≡ [] → w.txns ≡ v.txns → ListsBy c o v w → Logs c o v w
+same_logs c o v w none same lists = record {
+  begun = λ u h. absurd (false≢true (ap (λ xs. has xs u) (sym none) ∙ h));
+  new = λ u h. inl (ap (λ (x : Txn). is_new x.status) (at_same v w u same) ∙ h);
+  lists = lists;
+}
+
+-- where nobody begins, and one changes that runs
+set_logs : (c : Choice) (o : Outcome) (v w : View) (t : ℕ) (y : Txn) → who_begins c o ≡ [] → is_active (txn_at v t).status ≡ true
+    → w.txns ≡ slice_set v.txns t y → ListsBy c o v w → Logs c o v w
+set_logs c o v w t y none on set lists = record {
+  begun = λ u h. absurd (false≢true (ap (λ xs. has xs u) (sym none) ∙ h));
+  new = λ u h. elim (cases_eq u t) [
+    | inl same ↦ absurd (false≢true (sym (not_new _ (subst (λ z. is_new (txn_at v z).status ≡ true) same h)) ∙ on))
+    | inr far ↦ inl (ap (λ (x : Txn). is_new x.status) (at_other v w t u y set far) ∙ h)
+  ];
+  lists = lists;
+}
+
+-- a run
+run_logs : (n : Node) (t : ℕ) (o : Outcome) (v w : View) → Fares t o v w → Lists n t o v w → Logs (Run n t) o v w
+run_logs n t o v w (Stays same none) lists = same_logs (Run n t) o v w refl same lists
+run_logs n t o v w (Goes y on set done regs) lists = set_logs (Run n t) o v w t y refl on set lists
+
+-- t begins, which was new
+begin_logs : (n : Node) (t : ℕ) (v w : View) (y : Txn) → is_new (txn_at v t).status ≡ true → w.txns ≡ slice_set v.txns t y → w.commits ≡ v.commits
+    → Logs (Begin t) (outcome.Began n) v w
+begin_logs n t v w y first set all = record {
+  begun = λ u h. elim (or_cases (t == u) false h) [
+    | inl same ↦ subst (λ z. is_new (txn_at v z).status ≡ true) (eqb-true t u same) first
+    | inr never ↦ absurd (false≢true never)
+  ];
+  new = λ u h. elim (cases_eq u t) [
+    | inl same ↦ inr (ap (λ z. z ∷ []) (sym same))
+    | inr far ↦ inl (ap (λ (x : Txn). is_new x.status) (at_other v w t u y set far) ∙ h)
+  ];
+  lists = all;
+}
+
 -- what a move tells, where those that have not begun have nothing yet
 pub record Told (sc : Scenario) (n : Node) (v : View) (c : Choice) (m : Move) : Type 0 where
   pub reason : HasReason sc n v c m.outcome
@@ -101,6 +153,7 @@ pub record Told (sc : Scenario) (n : Node) (v : View) (c : Choice) (m : Move) : 
   pub stale : Stale v m.after
   pub awaited : IsAwaited m.outcome m.after.me
   pub accounts : Blank v → (u : ℕ) → Accounts c m.outcome u (txn_at v u) (txn_at m.after u)
+  pub logs : Logs c m.outcome v m.after
 
 -- where a transaction stays what it was and is not run, nothing is to be accounted for
 idle_accounts : (c : Choice) (o : Outcome) (u : ℕ) (x y : Txn) → runs c u ≡ false → y.done ≡ x.done → y.regs ≡ x.regs → Accounts c o u x y
@@ -149,32 +202,33 @@ fares_accounts n t o v w (Goes y active set done regs) u = elim (cases_eq u t) [
 
 -- an outcome alone
 stays : (sc : Scenario) (n : Node) (c : Choice) (v : View) (o : Outcome) → ((u : ℕ) → runs c u ≡ false) → HasReason sc n v c o
-    → IsNumbered o v.commits → IsAwaited o v.me → Told sc n v c (quiet v o)
-stays sc n c v o off reason number awaited = record {
+    → IsNumbered o v.commits → IsAwaited o v.me → who_begins c o ≡ [] → ListsBy c o v v → Told sc n v c (quiet v o)
+stays sc n c v o off reason number awaited none lists = record {
   reason = reason;
   sent = refl;
   number = number;
   stale = none_taken v v.me;
   awaited = awaited;
   accounts = apart c o v v off refl;
+  logs = same_logs c o v v none refl lists;
 }
 
 -- a run tells
 run_told : (sc : Scenario) (n : Node) (t : ℕ) (v : View) (m : Move) → Tells sc n t v m → Told sc n v (Run n t) m
-run_told sc n t v m x = record { reason = x.reason; sent = x.sent; number = x.number; stale = λ p ms f e h. none_taken v m.after.me p ms f (sym x.inbox ∙ e) h; awaited = x.awaited; accounts = λ _ u. fares_accounts n t m.outcome v m.after x.fares u }
+run_told sc n t v m x = record { reason = x.reason; sent = x.sent; number = x.number; stale = λ p ms f e h. none_taken v m.after.me p ms f (sym x.inbox ∙ e) h; awaited = x.awaited; accounts = λ _ u. fares_accounts n t m.outcome v m.after x.fares u; logs = run_logs n t m.outcome v m.after x.fares x.lists }
 
 -- a kill
 kill_told : (sc : Scenario) (n : Node) (t : ℕ) (v : View) → (txn_at v t).node ≡ n → Told sc n v (Kill t) (kill_step t v)
 unfolding kill_step aborted
 kill_told sc n t v here =
     cond_both (is_active (txn_at v t).status) _ _ (Told sc n v (Kill t))
-    (λ a. record { reason = (t, (a, here), refl); sent = refl; number = tt; stale = none_taken v _; awaited = tt; accounts = λ _. sets (Kill t) _ v _ t _ (λ _. refl) refl refl refl })
-    (λ _. stays sc n (Kill t) v _ (λ _. refl) tt tt tt)
+    (λ a. record { reason = (t, (a, here), refl); sent = refl; number = tt; stale = none_taken v _; awaited = tt; accounts = λ _. sets (Kill t) _ v _ t _ (λ _. refl) refl refl refl; logs = set_logs (Kill t) _ v _ t _ refl a refl refl })
+    (λ _. stays sc n (Kill t) v _ (λ _. refl) tt tt tt refl refl)
 
 -- a begin at a node, or at none
 begin_at_told : (sc : Scenario) (n : Node) (t : ℕ) (o : Option Node) (v : View) → is_new (txn_at v t).status ≡ true → Told sc n v (Begin t) (begin_at o t v)
 unfolding begin_at begun
-begin_at_told sc n t None v new = stays sc n (Begin t) v _ (λ _. refl) tt tt tt
+begin_at_told sc n t None v new = stays sc n (Begin t) v _ (λ _. refl) tt tt tt refl refl
 begin_at_told sc n t (Some h) v new = record {
   reason = tt;
   sent = refl;
@@ -183,6 +237,7 @@ begin_at_told sc n t (Some h) v new = record {
   awaited = tt;
   accounts = λ blank. let e = blank.each t new in
       sets (Begin t) _ v _ t _ (λ _. refl) refl (sym (ap (λ (x : Txn). x.done) e)) (sym (ap (λ (x : Txn). x.regs) e));
+  logs = begin_logs h t v _ _ new refl refl;
 }
 
 -- a begin
@@ -191,15 +246,15 @@ unfolding begin_step
 begin_told sc n t v =
     cond_both (is_new (txn_at v t).status) _ _ (Told sc n v (Begin t))
     (λ new. begin_at_told sc n t _ v new)
-    (λ _. stays sc n (Begin t) v _ (λ _. refl) tt tt tt)
+    (λ _. stays sc n (Begin t) v _ (λ _. refl) tt tt tt refl refl)
 
 -- a start
 start_told : (sc : Scenario) (n : Node) (v : View) → Told sc n v Start (start_step v)
 unfolding start_step
 start_told sc n v =
     cond_both (may_start v.me.mode v.them.mode) _ _ (Told sc n v Start)
-    (λ _. record { reason = tt; sent = (Wire v.me.lows, refl, refl); number = tt; stale = none_taken v _; awaited = tt; accounts = apart Start _ v _ (λ _. refl) refl })
-    (λ _. stays sc n Start v _ (λ _. refl) tt tt tt)
+    (λ _. record { reason = tt; sent = (Wire v.me.lows, refl, refl); number = tt; stale = none_taken v _; awaited = tt; accounts = apart Start _ v _ (λ _. refl) refl; logs = same_logs Start _ v _ refl refl refl })
+    (λ _. stays sc n Start v _ (λ _. refl) tt tt tt refl refl)
 
 -- who is found is the lowest that runs at n
 lowest_runs : (n : Node) (t : ℕ) (v : View) → active_from n 0 v.txns ≡ Some t → RunsAt v t n × ((u : ℕ) → RunsAt v u n → t ≤ u)
@@ -214,17 +269,17 @@ lowest_runs n t v e =
 finish_told : (sc : Scenario) (n : Node) (mode : NodeMode) (o : Option ℕ) (v : View) → active_from n 0 v.txns ≡ o
     → Told sc n v (Finish_at n) (finish_if (on_finish mode (is_some o)) (unwrap_or o 0) v)
 unfolding finish_if
-finish_told sc n SDual None v e = record { reason = tt; sent = (Finish, refl, refl); number = tt; stale = none_taken v _; awaited = tt; accounts = apart (Finish_at n) _ v _ (λ _. refl) refl }
+finish_told sc n SDual None v e = record { reason = tt; sent = (Finish, refl, refl); number = tt; stale = none_taken v _; awaited = tt; accounts = apart (Finish_at n) _ v _ (λ _. refl) refl; logs = same_logs (Finish_at n) _ v _ refl refl refl }
 finish_told sc n SDual (Some t) v e =
     let k = lowest_runs n t v e in
-    stays sc n (Finish_at n) v (outcome.Active t) (λ _. refl) (refl, k.0, k.1) tt tt
-finish_told sc n mode o v e = stays sc n (Finish_at n) v _ (λ _. refl) tt tt tt
+    stays sc n (Finish_at n) v (outcome.Active t) (λ _. refl) (refl, k.0, k.1) tt tt refl refl
+finish_told sc n mode o v e = stays sc n (Finish_at n) v _ (λ _. refl) tt tt tt refl refl
 
 -- a push of a page, or of none
 push_if_told : (sc : Scenario) (n : Node) (o : Option ℕ) (v : View) → Told sc n v (Push n) (push_if o v)
 unfolding push_if leaves
-push_if_told sc n None v = stays sc n (Push n) v _ (λ _. refl) tt tt tt
-push_if_told sc n (Some p) v = record { reason = tt; sent = (Page (leaf_at v.me.pages p), refl, refl); number = tt; stale = none_taken v _; awaited = tt; accounts = apart (Push n) _ v _ (λ _. refl) refl }
+push_if_told sc n None v = stays sc n (Push n) v _ (λ _. refl) tt tt tt refl refl
+push_if_told sc n (Some p) v = record { reason = tt; sent = (Page (leaf_at v.me.pages p), refl, refl); number = tt; stale = none_taken v _; awaited = tt; accounts = apart (Push n) _ v _ (λ _. refl) refl; logs = same_logs (Push n) _ v _ refl refl refl }
 
 -- a push
 push_told : (sc : Scenario) (n : Node) (v : View) → Told sc n v (Push n) (push_step v)
@@ -232,7 +287,7 @@ unfolding push_step
 push_told sc n v =
     cond_both (may_push v.me.mode) _ _ (Told sc n v (Push n))
     (λ _. push_if_told sc n _ v)
-    (λ _. stays sc n (Push n) v _ (λ _. refl) tt tt tt)
+    (λ _. stays sc n (Push n) v _ (λ _. refl) tt tt tt refl refl)
 
 -- ---- messages
 
@@ -271,7 +326,7 @@ module _ (sc : Scenario) (n : Node) where
       → HasReason sc n v (Take n) (outcome_of m) → ((cs : List CommitRecord) → IsNumbered (outcome_of m) cs)
       → ((x : NodeState) → IsAwaited (outcome_of m) x) → Told sc n v (Take n) (arrival_step y m v (record v { inbox = ms }))
   unfolding arrival_step
-  arrives m v ms Stray f far a reason number awaited = stays sc n (Take n) v outcome.Stray (λ _. refl) tt tt tt
+  arrives m v ms Stray f far a reason number awaited = stays sc n (Take n) v outcome.Stray (λ _. refl) tt tt tt refl refl
   arrives m v ms (Turns mode sent) f far a reason number awaited = record {
     reason = reason;
     sent = a;
@@ -279,12 +334,13 @@ module _ (sc : Scenario) (n : Node) where
     stale = λ p xs g _ _. absurd (far p (first_same (sym f ∙ g)));
     awaited = awaited _;
     accounts = apart (Take n) _ v _ (λ _. refl) refl;
+    logs = same_logs (Take n) _ v _ refl refl refl;
   }
 
   -- a pull is taken, or it is not
   pulled : (p : ℕ) (v : View) (ms : List Message) (y : MessageLine) → v.inbox ≡ Pull p ∷ ms → Told sc n v (Take n) (pull_step sc p y v (record v { inbox = ms }))
   unfolding pull_step leaves
-  pulled p v ms Stray f = stays sc n (Take n) v outcome.Stray (λ _. refl) tt tt tt
+  pulled p v ms Stray f = stays sc n (Take n) v outcome.Stray (λ _. refl) tt tt tt refl refl
   pulled p v ms (Turns mode sent) f =
       let front : slice_get v.inbox 0 ≡ Some (Pull p) = ap (λ xs. slice_get xs 0) f in
       let asked : (q : ℕ) (xs : List Message) → v.inbox ≡ Pull q ∷ xs → p ≡ q = λ q xs g. pull_same (first_same (sym f ∙ g)) in
@@ -296,10 +352,11 @@ module _ (sc : Scenario) (n : Node) where
         stale = λ q xs g _ _. subst (λ z. owns v.me.pages z ≡ false) (asked q xs g) (not-true _ gone);
         awaited = tt;
         accounts = apart (Take n) _ v _ (λ _. refl) refl;
+        logs = same_logs (Take n) _ v _ refl refl refl;
       })
       (λ here. cond_both (is_held sc.rule && is_locked v.me.locks p) _ _ (Told sc n v (Take n))
       (λ held. let both = and_parts _ _ held in
-      stays sc n (Take n) v (outcome.Held p) (λ _. refl) (refl, front, held_rule sc.rule both.0, not-false _ here, both.1) tt tt)
+      stays sc n (Take n) v (outcome.Held p) (λ _. refl) (refl, front, held_rule sc.rule both.0, not-false _ here, both.1) tt tt refl refl)
       (λ _. record {
         reason = tt;
         sent = (Page (leaf_at v.me.pages p), refl, refl);
@@ -308,6 +365,7 @@ module _ (sc : Scenario) (n : Node) where
             (ap (λ (x : NodeState). owns x.pages p) (sym h) ∙ owns-without p v.me.pages);
         awaited = tt;
         accounts = apart (Take n) _ v _ (λ _. refl) refl;
+        logs = same_logs (Take n) _ v _ refl refl refl;
       }))
 
   -- a message of each kind
@@ -326,7 +384,7 @@ module _ (sc : Scenario) (n : Node) where
   -- the front of the link, if there is one
   front_told : (ms : List Message) (v : View) → v.inbox ≡ ms → Told sc n v (Take n) (front_step sc ms v)
   unfolding front_step
-  front_told [] v f = stays sc n (Take n) v outcome.NoMessage (λ _. refl) tt tt tt
+  front_told [] v f = stays sc n (Take n) v outcome.NoMessage (λ _. refl) tt tt tt refl refl
   front_told (m ∷ ms) v f = message_told m v ms f
 
   -- a take

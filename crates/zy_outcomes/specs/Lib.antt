@@ -3,3 +3,4 @@ pub mod Beginnings
 pub mod Coming
 pub mod GetsOn
 pub mod Reasons
+pub mod SameLogs

@@ -1,0 +1,2 @@
+pub mod Sorts
+pub mod SameOrder

@@ -1,0 +1,20 @@
+//! What holds of each order of some logs: each function is a law, and its contract is all of it.
+ghost use Rattle.std.specs.Prelude.{◌≡◌, ◌++◌, List};
+ghost use Rattle.zy_isa.specs.declared.choice.Choice.{Choice as AChoice};
+ghost use Rattle.zy_isa.specs.Scenario.{Scenario, IsScenario};
+ghost use Rattle.zy_table.specs.Play.{play, opening};
+ghost use Rattle.zy_laws.specs.SourceFirst.{migration_order};
+ghost use Rattle.zy_outcomes.specs.SameLogs.{txns_of};
+ghost use Rattle.zy_logs.specs.declared.log_line.LogLine.{LogLine as ALine};
+ghost use Rattle.zy_order.specs.declared.gaps.Gaps.{Gaps as SomeGaps};
+ghost use Rattle.zy_order.specs.Orders.{IsOrder, choices_of};
+ghost use Rattle.zy_order_laws.specs.Complete.{AreComplete};
+
+/// Whichever order of logs is found, if no line is missing and each tells its outcome, the committed transactions have
+/// the same migration order.
+pub fn one_migration_order()
+    ensures { (sc : Scenario) → IsScenario sc → (before : List AChoice) (lines : List ALine) (gaps : SomeGaps) → AreComplete lines gaps
+        → (one other : List ALine) → let s = play sc (opening sc) before in
+        IsOrder sc s lines gaps one → IsOrder sc s lines gaps other
+        → txns_of (migration_order sc (before ++ choices_of one)) ≡ txns_of (migration_order sc (before ++ choices_of other)) }
+{}
