@@ -472,12 +472,17 @@ def ended(run, state):
     for t, txn in enumerate(state.txns):
         if txn.status == 'active':
             state = run.after(state, ('C', 'kill', t))
-    for _ in range(2 * sum(len(node.pages) for node in state.nodes) + sum(len(link) for link in state.links) + 10):
+    for _ in range(enough(state)):
         choice = next_choice(state)
         if not choice:
             break
         state = run.after(state, choice)
     return state
+
+
+def enough(state):
+    """As many choices as there can be: two for each page, one for each message, and ten."""
+    return 2 * sum(len(node.pages) for node in state.nodes) + sum(len(link) for link in state.links) + 10
 
 
 def next_choice(state):
@@ -495,6 +500,34 @@ def is_ended(state, later):
     return (empty is not None and is_nothing_left(later, empty) and not active_at(later, other(empty))
             and all(name == empty for name in NODES if node_of(state, name).mode in SOURCES)
             and later.commits == state.commits and database(later) == database(state))
+
+
+def gets_on(run):
+    """Once the others are killed an active transaction gets on in at most `pages` + 2 rounds: in one it runs once, and then messages are taken."""
+    return all(goes_on(run, state, t) for state in run.states for t, txn in enumerate(state.txns) if txn.status == 'active')
+
+
+def goes_on(run, state, t):
+    old = state.txns[t]
+    for u, txn in enumerate(state.txns):
+        if txn.status == 'active' and u != t:
+            state = run.after(state, ('C', 'kill', u))
+    for _ in range(run.scenario.pages + 2):
+        state = run.after(state, (old.node, 'run', t))
+        if state.txns[t].done > old.done or state.txns[t].status == 'aborted' and state.txns[t].why != 'killed':
+            return True
+        state = with_all_taken(run, state)
+    return False
+
+
+def with_all_taken(run, state):
+    """The state after takes, while there is a message and at most as many as the way out has."""
+    for _ in range(enough(state)):
+        name = next((name for name in 'BA' if inbox(state, name)), None)
+        if name is None:
+            break
+        state = run.after(state, (name, 'take', None))
+    return state
 
 
 # What the transactions have seen
@@ -608,4 +641,4 @@ LAWS = {law.__name__: law for law in (
     one_owner, one_source, b_never_sends, lists_in_order, rows_match, one_wireframe, nothing_left, exclusive_alone, holders_active, private_active,
     room_at_commit, locked_here, page_limit, commits_listed, on_its_way, never_stray, still_stays, on_message, a_step_leaves_the_rest, sent_is_said,
     pages_travel, commits_alone, gone_in_dual, commit_number, done_counts, what_is_awaited_was_asked_for, a_begin_acts, a_start_acts, a_refusal_has_its_reason,
-    no_dead_end, serializable, a_first, strictly_serializable, active_views)}
+    no_dead_end, gets_on, serializable, a_first, strictly_serializable, active_views)}
