@@ -365,6 +365,13 @@ SCRIPT_FAULTS = [
            'self.left, key=self.behind.get, default=None)', 'build'),
     script('build: no proof goes before the others', 'tools/build.py', "before = () if is_first else ('nice',)", 'before = ()', 'build'),
     script('build: a proof that fails is passed over', 'tools/build.py', 'if not is_proved:', 'if False:', 'build'),
+    # what each line of the step table is needed for
+    script('needed: the plain table lets a read pass any lock', 'tests/plain_table.py', 'lock[1] != t and (exclusively or lock[2])', 'lock[1] != t and exclusively',
+           'needed'),
+    script('needed: a law is always kept', 'tests/plain_laws.py', "return all(step.outcome != 'stray' for step in run.steps)", 'return True', 'needed'),
+    script('needed: the runs of other numbers are played', 'tests/random_runs.py', 'random.Random(number)', 'random.Random(number + 1)', 'needed'),
+    script('needed: a wrong line is the table as it is', 'tests/needed', 'source = source.replace(old, new)', 'pass', 'needed'),
+    script('needed.md: another law is named', 'docs/needed.md', '| From B never | `a_start_acts` |', '| From B never | `never_stray` |', 'needed'),
     # what must be believed, and the program that rt ci leaves
     script('believe.py: a case is no part of its type', 'tools/believe.py', 'name = found.cases.get(name, name)', 'pass', 'believed'),
     script('believe.py: what a file passes on is not found', 'tools/believe.py',
