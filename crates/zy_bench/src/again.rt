@@ -3,7 +3,7 @@
 use crate::listing::LineKept;
 use std::alloc::Global;
 use zy_engine::engine::run_input;
-use zy_engine::format::split_scenario;
+use zy_engine::format::{accept, split_scenario};
 use zy_engine::output::RunFormat;
 use zy_engine::{BenchFault, Format};
 use zy_machine::Machine;
@@ -14,42 +14,40 @@ pub fn scenario_part(input: &[u8]) -> &[u8] {
     part
 }
 
-/// Makes the choices of a scenario again; the listing goes to a sink that keeps a line of it.
-pub fn run_again(
-    alloc: Global,
-    format: Format,
-    scenario: &[u8],
-    kept: &mut LineKept,
-) -> Result<Machine, BenchFault> {
-    run_input(alloc, format, RunFormat::Listing, scenario, kept)
+/// How many transactions and choices a scenario has, and how many pages it may have.
+#[derive(Clone, Copy)]
+pub struct Extent {
+    pub txns: usize,
+    pub pages: usize,
+    pub choices: usize,
 }
 
-/// Makes the choices of a scenario.
-pub fn make_again(alloc: Global, format: Format, scenario: &[u8]) -> Result<Machine, BenchFault> {
-    let mut kept = LineKept::new(alloc, 0);
-    let made = run_again(alloc, format, scenario, &mut kept);
-    drop(kept);
-    made
+/// The extent of the scenario of an input.
+pub fn extent_of(alloc: Global, format: Format, input: &[u8]) -> Result<Extent, BenchFault> {
+    let scenario = accept(alloc, format, input)?;
+    Ok(Extent {
+        txns: scenario.programs().len(),
+        pages: usize::from(scenario.pages()),
+        choices: scenario.choices().len(),
+    })
 }
 
-/// Makes the choices of a scenario, for the fault that this may end in alone.
-pub fn test_again(alloc: Global, format: Format, scenario: &[u8]) -> Result<(), BenchFault> {
-    let machine = make_again(alloc, format, scenario)?;
-    machine.discard();
-    Ok(())
+/// A machine of the scenario of an input that has made no choice.
+pub fn open_again(alloc: Global, format: Format, input: &[u8]) -> Result<Machine, BenchFault> {
+    let scenario = accept(alloc, format, input)?;
+    Ok(Machine::open(alloc, scenario)?)
 }
 
-/// How many choices a scenario makes.
-pub fn count_again(alloc: Global, format: Format, scenario: &[u8]) -> Result<usize, BenchFault> {
-    let machine = make_again(alloc, format, scenario)?;
-    let count = machine.len();
-    machine.discard();
-    Ok(count)
+/// Makes the choices of the scenario of an input.
+pub fn make_again(alloc: Global, format: Format, input: &[u8]) -> Result<Machine, BenchFault> {
+    let scenario = accept(alloc, format, input)?;
+    Ok(Machine::run_all(alloc, scenario)?)
 }
 
 /// Makes the choices of the scenario of an input, and keeps a line of the listing that the input is to be.
 fn keep_due(alloc: Global, input: &[u8], kept: &mut LineKept) -> Result<(), BenchFault> {
-    let machine = run_again(alloc, Format::Text, scenario_part(input), kept)?;
+    let part = scenario_part(input);
+    let machine = run_input(alloc, Format::Text, RunFormat::Listing, part, kept)?;
     machine.discard();
     if kept.is_refused() {
         return Err(BenchFault::Memory);

@@ -1,7 +1,7 @@
 //! The commands `search` and `find`: a goal is read, and answered.
 ghost use Rattle.std.specs.Prelude.{◌<◌};
 
-use crate::again::{count_again, make_again, test_again};
+use crate::again::extent_of;
 use crate::command_line::request::Quest;
 use crate::exit_status::{COMMAND_LINE, DONE, NOWHERE, SPENT};
 use crate::explained::{explain, found_again};
@@ -25,7 +25,6 @@ use zy_goals::{GoalFault, Names};
 use zy_io::CountingReader;
 use zy_io::reading::read_all;
 use zy_isa::Choice;
-use zy_machine::Machine;
 use zy_ordering::names::names_of;
 use zy_search::{SearchAnswer, SearchReport, Sought};
 
@@ -107,7 +106,7 @@ fn answer_read<R: Eprint + AllocGlobal + Clock + Threads + Sync, W: Write>(
         }
         Err(fault) => {
             // A scenario that is rejected has no names.
-            test_again(rt.alloc(), quest.options.format, scenario)?;
+            extent_of(rt.alloc(), quest.options.format, scenario)?;
             no_goal(rt, quest, fault)
         }
     }
@@ -142,7 +141,7 @@ fn lacking(
     let Some(from) = options.from else {
         return Ok(None);
     };
-    let count = count_again(alloc, options.format, scenario)?;
+    let count = extent_of(alloc, options.format, scenario)?.choices;
     if count < from {
         return Ok(Some(Count::of(count, "choice")));
     }
@@ -287,17 +286,10 @@ fn warn<R: Eprint + AllocGlobal>(
     if named.is_nothing() {
         return Ok(());
     }
-    let machine = make_again(rt.alloc(), format, scenario)?;
-    warn_in(rt, &machine, named);
-    machine.discard();
+    let extent = extent_of(rt.alloc(), format, scenario)?;
+    warn_of(rt, "transaction", named.txns, extent.txns);
+    warn_of(rt, "page", named.pages, extent.pages);
     Ok(())
-}
-
-/// Warns of what a machine does not have.
-fn warn_in(rt: &impl Eprint, machine: &Machine, named: Named) {
-    warn_of(rt, "transaction", named.txns, machine.txn_count());
-    let pages = usize::from(machine.scenario().pages());
-    warn_of(rt, "page", named.pages, pages);
 }
 
 /// Warns of one of these, of which there are `count`, where it takes `named` of them for the goal to name no others.

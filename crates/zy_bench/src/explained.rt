@@ -1,6 +1,6 @@
 //! The order that explains the rows of a run, as standard error names it.
 
-use crate::again::make_again;
+use crate::again::{make_again, open_again};
 use crate::nothing::tell_number;
 use std::alloc::Global;
 use std::fmt;
@@ -60,14 +60,6 @@ fn go_first(machine: &mut Machine, count: usize) -> Result<(), Fault> {
 fn go_found(machine: &mut Machine, options: SearchOptions, found: &[Choice]) -> Result<(), Fault> {
     go_first(machine, options.from.unwrap_or(MAX_CHOICES))?;
     go_on(machine, found)
-}
-
-/// A machine of a scenario that has made no choice.
-fn open_again(alloc: Global, format: Format, scenario: &[u8]) -> Result<Machine, BenchFault> {
-    let run = make_again(alloc, format, scenario)?;
-    let opened = run.reopen(alloc);
-    run.discard();
-    Ok(opened?)
 }
 
 /// The machine of a scenario that has made the choices that a search has found.
