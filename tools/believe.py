@@ -24,7 +24,7 @@ PARTS = [
                                                                                'zy_table.specs.Play.opening', 'zy_table.specs.Play.entries'], []),
     ('Serializability and ownership', 'What holds of every schedule.', [],
      ['zy_laws/src/laws.rt', 'zy_machine/src/machine.rt', 'zy_serial/src/laws.rt', 'zy_serial/src/order.rt', 'zy_serial/src/explaining.rt']),
-    ('What an outcome says', 'Where each outcome comes, what it tells of its step, what is on its way, how a transaction gets on, and what the logs of a run tell of the migration order.', [], ['zy_outcomes/src/laws.rt']),
+    ('What an outcome says', 'Where some outcomes come, what each tells of its step, what is on its way, how a transaction gets on, and what the logs of a run tell of the migration order.', [], ['zy_outcomes/src/laws.rt']),
     ('Which steps commute, and which states are alike', 'What the searches rely on.', [],
      ['zy_frames/src/laws.rt', 'zy_commute/src/laws.rt', 'zy_alike/src/laws.rt', 'zy_pack/src/laws.rt', 'zy_parts/src/laws.rt', 'zy_memo/src/laws.rt']),
     ('Texts, images and listings', 'What `run`, `trace`, `asm`, `dis` and `check` read and write.', [],

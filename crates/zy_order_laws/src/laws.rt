@@ -10,8 +10,8 @@ ghost use Rattle.zy_order.specs.declared.gaps.Gaps.{Gaps as SomeGaps};
 ghost use Rattle.zy_order.specs.Orders.{IsOrder, choices_of};
 ghost use Rattle.zy_order_laws.specs.Complete.{AreComplete};
 
-/// Whichever order of logs is found, if no line is missing and each tells its outcome, the committed transactions have
-/// the same migration order.
+/// Whichever order of logs is found, if the logs have no gaps and each line tells its outcome, the committed transactions
+/// have the same migration order.
 pub fn one_migration_order()
     ensures { (sc : Scenario) → IsScenario sc → (before : List AChoice) (lines : List ALine) (gaps : SomeGaps) → AreComplete lines gaps
         → (one other : List ALine) → let s = play sc (opening sc) before in

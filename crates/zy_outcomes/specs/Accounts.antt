@@ -48,7 +48,7 @@ abbrev pub Says : Option Kind → List Message → List Message → Type 0
 Says None old new = new ≡ old
 Says (Some kind) old new = (m : Message) × (kind_of m ≡ kind) × (new ≡ old ++ m ∷ [])
 
--- a commit is the last one of these, and its number says how many they are
+-- the number of a commit says how many commits there are
 abbrev pub IsNumbered : Outcome → List CommitRecord → Type 0
 IsNumbered (Committed i) commits = i ≡ length commits
 IsNumbered o commits = Unit {0}

@@ -1,4 +1,4 @@
--- No transaction has to wait forever: choices by which an active one gets on. It is not said that anybody makes them.
+-- Choices by which an active transaction gets on. It is not said that anybody makes them.
 use Rattle.std.specs.Prelude.{ℕ, zero, suc, ◌≡◌, ◌<◌, ◌≤◌, ◌+◌, ◌⊎◌, ◌++◌, List, [], ◌∷◌, Option, Some, None, slice_set}
 use Rattle.zy_isa.specs.Scenario.{Scenario}
 use Rattle.zy_isa.specs.declared.choice.Choice.{Choice}

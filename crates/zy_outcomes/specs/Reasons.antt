@@ -94,7 +94,7 @@ HasCause sc n v c t (why.Gone p) =
 abbrev pub IsAsked : View → ℕ → Type 0
 IsAsked v p = slice_get v.inbox 0 ≡ Some (Pull p)
 
--- the reason of an outcome at node n, which acts: what is so where it comes, so that it comes only there
+-- the reason of an outcome: a condition that holds whenever node n gives this outcome
 abbrev pub HasReason : Scenario → Node → View → Choice → Outcome → Type 0
 HasReason sc n v c (Waits p) =
     (t : ℕ) × (kind : LockKind) × Wants sc n v c p t kind × (owns v.me.pages p ≡ true) × (conflict v.me.locks p t kind ≡ true)

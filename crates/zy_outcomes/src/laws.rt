@@ -34,8 +34,7 @@ pub fn a_start_acts()
         (x.outcome ≡ outcome.Started → MayStart sc (side_of sc Start s) s) × (MayStart sc n s → x.outcome ≡ outcome.Started) }
 {}
 
-/// Where an outcome says that a choice has come to nothing, or that a transaction aborts or asks for a page, it has its
-/// reason; so none of these comes anywhere else.
+/// `waits`, `pulls`, `awaits`, `notyet`, `active`, `held`, `stale` and each abort come only where their reason holds.
 pub fn a_refusal_has_its_reason()
     ensures { (sc : Scenario) (choice : AChoice) (s : State)
         → let n = side_of sc choice s in HasReason sc n (facing n s) choice (step sc choice s).outcome }
@@ -54,7 +53,7 @@ pub fn no_commit_gone()
         Next sc t (facing n s) Commits → is_gone (step sc (Run n t) s).outcome ≡ false }
 {}
 
-/// There are never more low keys than the scenario has pages.
+/// There are never more low keys than the scenario's `pages` allows.
 pub fn page_limit()
     ensures { (sc : Scenario) → IsScenario sc → (choices : List AChoice) (n : Node)
         → length (facing n (play sc (opening sc) choices)).me.lows ≤ sc.pages }
@@ -68,8 +67,8 @@ pub fn done_counts()
         Accounts choice x.outcome t (txn_of s t) (txn_of x.after t) }
 {}
 
-/// Where a step says that a message was sent, that message is put at the end of the acting node's outbound link, and
-/// else none is.
+/// Where a step says that it sent a message, one of that kind is put at the end of the acting node's outbound link, and
+/// else nothing is.
 pub fn sent_is_said()
     ensures { (sc : Scenario) (choice : AChoice) (s : State)
         → let n = side_of sc choice s in let x = step sc choice s in
@@ -82,14 +81,14 @@ pub fn private_active()
         → let x = txn_of (play sc (opening sc) choices) t in is_active x.status ≡ false → x.rows ≡ [] }
 {}
 
-/// The number of a commit is that of the commits there are with it.
+/// The number of a commit is how many commits there are after the step.
 pub fn commit_number()
     ensures { (sc : Scenario) (choice : AChoice) (s : State)
         → let x = step sc choice s in IsNumbered x.outcome x.after.commits }
 {}
 
-/// Each page that a node asked for is on its way: its pull to the other node, or the page itself back. It is asked for
-/// once.
+/// Each page that a node asked for is on its way: its pull to the other node, or the page itself back. At most one pull
+/// of it is on the link at a time.
 pub fn on_its_way()
     ensures { (sc : Scenario) → IsScenario sc → (choices : List AChoice) (n : Node)
         → OnItsWay (facing n (play sc (opening sc) choices)) }
@@ -117,7 +116,7 @@ pub fn alone_waits_for_no_lock()
         → ((step sc (Run n t) s).outcome ≡ outcome.Waits p → ⊥) × ((step sc (Take n) s).outcome ≡ outcome.Held p → (txn_of s t).node ≡ n) }
 {}
 
-/// No transaction has to wait forever. Once the others are killed, an active transaction gets on in at most pages + 2
+/// There is always a way on. Once the others are killed, an active transaction gets on in at most pages + 2
 /// rounds: it does more instructions, of which a commit is one, or aborts, and not by a kill. In a round it runs once, and
 /// then messages are taken while there are any, at most `enough` of them. It is not said that anybody makes these choices.
 pub fn gets_on()
