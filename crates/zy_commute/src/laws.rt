@@ -16,7 +16,7 @@ pub fn a_run_may_come_first()
 {}
 
 /// A `run` whose outcome is `did` changes nothing that the client and the other node see: their choices have the same
-/// outcomes and messages after it, also where one of them kills its transaction.
+/// outcomes and kinds of message after it, also where one of them kills its transaction.
 pub fn a_run_is_unseen()
     ensures { (sc : Scenario) (n : Node) (t : ℕ) (s : State) (choices : List AChoice) → Does sc n t s → AreOfOthers n choices
         → entries sc (step sc (Run n t) s).after choices ≡ entries sc s choices }

@@ -51,7 +51,7 @@ abbrev pub enough : State → ℕ
 enough s =
     let pages = length s.a.pages + length s.b.pages in (pages + pages) + (length s.ab + length s.ba) + 10
 
--- the way out: each active transaction is killed, and then comes what comes next, to the end
+-- the way out: each active transaction is killed, and then the next step is made, until there is none
 abbrev pub way_out : Scenario → State → List Choice
 way_out sc s = let killed = kills 0 s.txns in let after = play sc s killed in killed ++ onward sc (enough after) after
 

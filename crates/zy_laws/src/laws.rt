@@ -60,8 +60,9 @@ pub fn never_stray()
         → is_stray (step sc choice (play sc (opening sc) choices)).outcome ≡ false }
 {}
 
-/// Of two wireframes one is the source's, which begins the destination's; they are the same until the destination is
-/// Normal. Who has a wireframe on its way is the source, and that wireframe is its own.
+/// If both nodes have a wireframe, one node is the source, and its wireframe is a prefix of the other's; they are the
+/// same until the destination is `normal`. A node that has a wireframe on its way is the source, and the wireframe is its
+/// own.
 pub fn one_wireframe()
     ensures { (sc : Scenario) (choices : List AChoice) → OneWireframe (play sc (opening sc) choices) }
 {}
@@ -82,7 +83,8 @@ pub fn one_source()
 {}
 
 /// A page returns only in another migration. As long as no `start` acts, one that has passed to a node that is no
-/// source does not go back: it is in a message to that node or there, and once there it stays.
+/// source does not go back: one in a message to that node is later in that message or there, and one that is
+/// there stays.
 pub fn returns_by_start()
     ensures { (sc : Scenario) (choices more : List AChoice) (p : ℕ) (n : Node)
         → let s = play sc (opening sc) choices in
@@ -179,7 +181,7 @@ pub fn commits_listed()
 
 /// Under the rule `held` the database is that of the programs in the commit list, run one by one in its order; a
 /// transaction is there once where it is committed, and else not at all; and each has the registers of its lone run.
-/// Under `loose` the commit order need not do; the migration order of `strictly_serializable` does.
+/// Under `loose` the commit order may fail; the migration order of `strictly_serializable` never does.
 pub fn serializable()
     ensures { (sc : Scenario) → IsScenario sc → sc.rule ≡ Held → (choices : List AChoice)
         → Serializable sc (play sc (opening sc) choices) }
@@ -205,8 +207,8 @@ pub fn active_views()
         → IsOnLoneRun (program_of sc t) (rows_after sc (commits_before sc choices t)) (txns_after sc choices n t) }
 {}
 
-/// Places keep to real time: in any order of commits, if transaction u has not begun after n of the choices, no place of
-/// it is before a place that t has by what it had seen until then.
+/// Places keep to real time: if transaction u has not begun after n of the choices, any place that t has by what it had
+/// seen until then is no later than any place of u, in the same order of commits.
 pub fn places_in_time()
     ensures { (sc : Scenario) (choices : List AChoice) (order : List CommitRecord) (n t u : ℕ)
         → (p : HasPlace sc (take n choices) t order) → (q : HasPlace sc choices u order)
