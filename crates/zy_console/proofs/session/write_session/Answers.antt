@@ -31,11 +31,11 @@ returns-in_err-put_all g c =
     let says = says_first c.loop-words.debugger c.answer.new.debugger (words_of line) c.answer.new.line
     (subst (λ ws. LineSays c.loop-words.debugger ws c.answer.new.debugger c.answer.new.line)
     (c.as_slice.ensures ∙ c.take_line-rest.ensures.words) c.in_ok-answer.ensures) in
-    let front = subst (WrotePrefix (written c.loop-words.sink) (written c.put_all.new.sink)) c.as_bytes.ensures.value c.in_err-put_all.ensures.0 in
+    let front = subst (WrotePrefix (written c.loop-words.sink) (written c.put_all.new.self)) c.as_bytes.ensures.value c.in_err-put_all.ensures.0 in
     rw p.1 (rw p.2 (
       said_torn (written c.args.sink.now) (written c.loop-words.sink) c.args.debugger.now c.loop-words.debugger c.answer.new.debugger
           (lines_of c.args.commands.now) (lines_of c.loop-words.rest.now) (lines_of c.take_line-rest.result.now) c.answer.new.line
-          c.loop-words.invariant.said (record { line = line; first = taken; says = says }) (written c.put_all.new.sink) front,
+          c.loop-words.invariant.said (record { line = line; first = taken; says = says }) (written c.put_all.new.self) front,
       omega (arith, c.in_err-put_all.ensures.1, c.loop-words.invariant.same),
     ))
 
@@ -48,10 +48,10 @@ loop-words-preserved g c =
     let says = says_first c.loop-words.debugger c.answer.new.debugger (words_of line) c.answer.new.line
     (subst (λ ws. LineSays c.loop-words.debugger ws c.answer.new.debugger c.answer.new.line)
     (c.as_slice.ensures ∙ c.take_line-rest.ensures.words) c.in_ok-answer.ensures) in
-    let wrote = subst (Appends (written c.loop-words.sink) (written c.put_all.new.sink)) c.as_bytes.ensures.value c.in_ok-put_all.ensures.0 in
+    let wrote = subst (Appends (written c.loop-words.sink) (written c.put_all.new.self)) c.as_bytes.ensures.value c.in_ok-put_all.ensures.0 in
     record {
       said = said_more (written c.args.sink.now) (written c.loop-words.sink) c.args.debugger.now c.loop-words.debugger c.answer.new.debugger
           (lines_of c.args.commands.now) (lines_of c.loop-words.rest.now) (lines_of c.take_line-rest.result.now) c.answer.new.line
-          c.loop-words.invariant.said (record { line = line; first = taken; says = says }) (written c.put_all.new.sink) wrote;
+          c.loop-words.invariant.said (record { line = line; first = taken; says = says }) (written c.put_all.new.self) wrote;
       same = omega (arith, c.in_ok-put_all.ensures.1, c.loop-words.invariant.same);
     }

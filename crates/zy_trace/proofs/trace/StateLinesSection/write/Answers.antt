@@ -21,7 +21,7 @@ returns-in_err-put_all g c =
     let text : c.as_bytes.result.now ≡ flat_map line_of (map inset (state_lines s)) =
     c.as_bytes.ensures.value ∙ (c.in_ok-append_state.ensures ∙ ap (λ l. l ++ flat_map line_of (map inset (state_lines s))) c.clear.ensures) in
     rw (p.1, p.2) (
-      subst (WrotePrefix (g.K.Sink.written c.args.sink.now) (g.K.Sink.written c.put_all.new.sink)) text c.in_err-put_all.ensures.0,
+      subst (WrotePrefix (g.K.Sink.written c.args.sink.now) (g.K.Sink.written c.put_all.new.self)) text c.in_err-put_all.ensures.0,
       c.in_err-put_all.ensures.1,
     )
 
@@ -30,4 +30,4 @@ returns g c =
     let s = c.args.self.now.machine.now.state in
     let text : c.as_bytes.result.now ≡ flat_map line_of (map inset (state_lines s)) =
     c.as_bytes.ensures.value ∙ (c.in_ok-append_state.ensures ∙ ap (λ l. l ++ flat_map line_of (map inset (state_lines s))) c.clear.ensures) in
-    (subst (Appends (g.K.Sink.written c.args.sink.now) (g.K.Sink.written c.put_all.new.sink)) text c.in_ok-put_all.ensures.0, c.in_ok-put_all.ensures.1)
+    (subst (Appends (g.K.Sink.written c.args.sink.now) (g.K.Sink.written c.put_all.new.self)) text c.in_ok-put_all.ensures.0, c.in_ok-put_all.ensures.1)
