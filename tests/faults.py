@@ -389,6 +389,7 @@ SCRIPT_FAULTS = [
     script('places.py: documentation counts', 'tools/places.py', 'before not in (None, tokenize.INDENT, tokenize.NEWLINE)', 'True', 'places small'),
     script('places.py: the first cell of a row lists nothing', 'tools/places.py', "yield from re.split('[,;] ', cell)", 'pass', 'places small'),
     script('places.py: a list names nothing', 'tools/places.py', 'len(words_of(kind) & found) >= count', 'False', 'places small'),
+    script('places.py: a text with a number names nothing', 'tools/places.py', "ALONE + r'|(?s:.*)\\b%s %d(?s:.*)'", 'ALONE', 'places small'),
     script('places.py: cases count', 'tools/places.py', 'cases/(?!help-of)|', '', 'places small'),
     script('places.py: pages of scripts count', 'tools/places.py', 'believe\\.md|', '', 'places small'),
     script('places.py: beyond takes nothing out', 'tools/places.py', 'if path not in less.get(group, ())', 'if path', 'places small'),

@@ -29,13 +29,14 @@ CONTRIBUTING = 'CONTRIBUTING.md'
 # by itself, and `count` how many names a text has that lists them; what has no form has no words.
 Kind = collections.namedtuple('Kind', 'file types form count')
 ALONE = r'\s?%s|%s\s?'
+NUMBERED = ALONE + r'|(?s:.*)\b%s %d(?s:.*)'
 KINDS = {
     'instruction': Kind('crates/zy_isa/src/instr.rt', ['Instr'], ALONE, 3),
     'effect': Kind('crates/zy_table/src/effect.rt', ['Effect'], None, 0),
     'event': Kind('crates/zy_laws/proofs/walk/Events.antt', ['Event'], None, 0),
     'choice': Kind('crates/zy_isa/src/choice.rt', ['Choice'], ALONE, 4),
-    'outcome': Kind('crates/zy_table/src/outcome.rt', ['Outcome'], ALONE, 4),
-    'reason': Kind('crates/zy_table/src/outcome.rt', ['Why'], ALONE, 3),
+    'outcome': Kind('crates/zy_table/src/outcome.rt', ['Outcome'], NUMBERED, 4),
+    'reason': Kind('crates/zy_table/src/outcome.rt', ['Why'], NUMBERED, 3),
     'fact': Kind('crates/zy_goals/src/goal.rt', ['Fact', 'StateFact', 'AbortReason'], r'%s|\w+ [0-9PT] %s', 5),
     'column': Kind(None, ['low', 'rows', 'locks', 'pc', 'done', 'regs', 'private'], ALONE, 3),
     'command': Kind('crates/zy_diagnostics/src/command.rt', ['CommandName'], r'(?s:.*)zy_bench %s(?![.\w])(?s:.*)', 6),
@@ -44,8 +45,9 @@ KINDS = {
 }
 
 GROUPS = ('definitions', 'code', 'proofs', 'scripts', 'tests', 'docs', 'editors')
-FOLDERS = {'specs': 'definitions', 'src': 'code', 'proofs': 'proofs', 'tests': 'tests', 'docs': 'docs', 'README.md': 'docs', 'editors': 'editors', 'completions': 'editors'}
-LOOKED_AT = ('crates', 'tools', 'zy_bench', 'zdb', 'zplay', 'zsuite', 'zview', 'tests', 'docs', 'README.md', 'editors', 'completions')
+FOLDERS = {'specs': 'definitions', 'src': 'code', 'proofs': 'proofs', 'tests': 'tests', 'docs': 'docs', 'README.md': 'docs', 'editors': 'editors',
+           'completions': 'editors'}
+LOOKED_AT = ('crates', 'tools', 'zy_bench', 'zdb', 'zplay', 'zsuite', 'zview', 'examples/store', 'tests', 'docs', 'README.md', 'editors', 'completions')
 LEFT_OUT = re.compile(r'tests/(cases/(?!help-of)|mutants/|asked/|needed-runs|faults\.py|places)|docs/(believe\.md|logs/|pictures/)|tools/places\.py|.*\.zephyr$')
 
 ENUM = re.compile(r'^(?:pub(?:\(crate\))? )?enum (\w+)[^{]*\{\n(.*?)^\}', re.MULTILINE | re.DOTALL)
