@@ -380,6 +380,7 @@ SCRIPT_FAULTS = [
     script('--take takes a program for that of any sources', 'zy_bench', '!= "$2" ]]', '!= "" && -z $2 ]]', 'build'),
     script('--take takes a program that is not there', 'zy_bench', 'if [[ -x $(program_of "$1") ]] && note_sources', 'if note_sources', 'build'),
     script('--sum is over zy_first as well', 'zy_bench', 'sum_of zy_bench\n', 'sum_of zy_first\n', 'build'),
+    script('build: what decides about proofs is no source', 'zy_bench', ' tools/build.py tools/rt_once.py crates', ' crates', 'build'),
     script('build: how long it takes is not said', 'tools/build.py', "    say('by docs/gate.md", "    str('by docs/gate.md", 'build'),
     script('build: the minutes on several processors are those on one', 'tools/build.py', 'total * 4 / 5 / self.jobs', 'total * 4 / 5', 'build'),
     script('build: all of it goes side by side', 'tools/build.py', 'total / 5 + total * 4 / 5 / self.jobs', 'total / self.jobs', 'build'),

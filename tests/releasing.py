@@ -65,7 +65,7 @@ class Tree:
 
     def sources(self):
         """The checksums of the sources of the program, by their names."""
-        found = {'crates.txt': digest(content(self.path('crates.txt')))}
+        found = {name: digest(content(self.path(name))) for name in ('crates.txt', 'tools/build.py', 'tools/rt_once.py')}
         paths = [os.path.join(folder, name) for crate in needed() for folder, _, names in os.walk(self.path('crates/' + crate)) for name in names]
         for path in paths:
             if path.endswith(('.rt', '.antt')):
