@@ -386,6 +386,8 @@ SCRIPT_FAULTS = [
     script('build: memory that can be taken back counts as used', 'tools/machine.py', " + (number(content(folder, 'memory.stat'), cache) or 0)", '', 'build'),
     script('build: a part of a processor counts as none', 'tools/machine.py', 'math.ceil(quota / period)', 'quota // period', 'build'),
     script('build: a checkout of somebody else has no line of its own', 'zy_bench', 'build.lock"; } 2> /dev/null; then', 'build.lock"; }; then', 'build'),
+    script('build: --help builds the program', 'zy_bench', '[[ $* == --help || $* == --version ]]', '[[ $* == --version ]]', 'build'),
+    script('build: --version builds the program', 'zy_bench', '[[ $* == --help || $* == --version ]]', '[[ $* == --help ]]', 'build'),
     script('build: how long it takes is not said', 'tools/build.py', "    say('by docs/gate.md", "    str('by docs/gate.md", 'build'),
     script('build: the minutes on several processors are those on one', 'tools/build.py', 'total * 4 / 5 / self.jobs', 'total * 4 / 5', 'build'),
     script('build: all of it goes side by side', 'tools/build.py', 'total / 5 + total * 4 / 5 / self.jobs', 'total / self.jobs', 'build'),

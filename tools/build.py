@@ -1,10 +1,10 @@
 """Proves and builds a program: each crate once those that it uses are proved, with others side by side.
 
-    build.py [zy_bench | zy_first]
+    build.py [zy_bench | zy_first | --takes]
 
 The program is zy_bench, if none is named; zy_first uses fewer crates. What is proved and how long it takes is said first. A line on standard error for
 each crate as it is proved: its time, how many are left, and how long they take by estimate. Behind zy_first comes how the other commands are had. What
-rt writes goes to crates/build.log."""
+rt writes goes to crates/build.log. With --takes it says only what a build of zy_bench takes."""
 
 import math
 import os
@@ -22,7 +22,7 @@ from machine import free_memory, processors
 TOP = os.path.dirname(os.path.dirname(os.path.realpath(__file__)))
 CRATES = os.path.join(TOP, 'crates')
 LOG = os.path.join(CRATES, 'build.log')
-PROGRAM = sys.argv[1] if sys.argv[1:] else 'zy_bench'
+PROGRAM = sys.argv[1] if sys.argv[1:] and sys.argv[1] != '--takes' else 'zy_bench'
 ROOMS = os.path.join(CRATES, PROGRAM, 'out', 'rooms')
 
 # What one proof takes of memory, in bytes, at most.
@@ -244,6 +244,10 @@ def obey():
 
 
 def main():
+    if sys.argv[1:] == ['--takes']:
+        say('zy_bench: the program is not built of these sources; ./zy_bench --build proves and builds it: by docs/gate.md %d minutes of one processor, and '
+            'about %d here' % Build().estimate())
+        return 0
     obey()
     open(LOG, 'wb').close()
     shutil.rmtree(ROOMS, ignore_errors=True)
