@@ -18,7 +18,7 @@ NAMES = ('loops', 'locks', 'pages', 'migrate')
 
 def build():
     """Builds the program where it is not that of the sources."""
-    subprocess.run([os.path.join(TOP, 'zy_bench'), '--version'], check=True, stdout=subprocess.DEVNULL)
+    subprocess.run([os.path.join(TOP, 'zy_bench'), '--build'], check=True)
 
 
 def each_scenario(paths, measure):

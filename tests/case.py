@@ -186,5 +186,5 @@ def example_names():
 
 def is_built():
     """Whether the program is there, once ./zy_bench has built it where it was not."""
-    words = [os.path.join(TOP, 'zy_bench'), '--version']
+    words = [os.path.join(TOP, 'zy_bench'), '--build']
     return os.path.exists(words[0]) and subprocess.run(words, stdout=subprocess.DEVNULL).returncode == 0

@@ -65,7 +65,7 @@ class Tree:
 
     def sources(self):
         """The checksums of the sources of the program, by their names."""
-        found = {'crates.txt': digest(content(self.path('crates.txt')))}
+        found = {name: digest(content(self.path(name))) for name in ('crates.txt', 'tools/build.py', 'tools/rt_once.py')}
         paths = [os.path.join(folder, name) for crate in needed() for folder, _, names in os.walk(self.path('crates/' + crate)) for name in names]
         for path in paths:
             if path.endswith(('.rt', '.antt')):
@@ -86,9 +86,9 @@ class Tree:
         return {'PATH': path or self.path('bin') + os.pathsep + self.commands, 'HOME': home, 'LC_ALL': 'C.UTF-8', 'TMPDIR': os.path.dirname(self.top),
                 'PYTHONSAFEPATH': '1'}
 
-    def run(self, *words, path=None, given='', where=None, umask=-1):
-        """The status of a script of this tree, what it writes and what it says."""
-        done = subprocess.run([self.path(words[0]), *words[1:]], env=self.environment(path), input=given, cwd=where or self.top, umask=umask,
+    def run(self, *words, path=None, given='', where=None, umask=-1, **more):
+        """The status of a script of this tree, what it writes and what it says; `more` goes into the environment."""
+        done = subprocess.run([self.path(words[0]), *words[1:]], env={**self.environment(path), **more}, input=given, cwd=where or self.top, umask=umask,
                               capture_output=True, text=True, timeout=120, check=False)
         return done.returncode, done.stdout, done.stderr
 

@@ -51,13 +51,17 @@ class Refused(Exception):
         return self.status if self.status >= 0 else 128 - self.status
 
 
+def is_own():
+    """Whether the program is that of this checkout, which ./zy_bench builds."""
+    return PROGRAM == os.path.join(TOP, 'zy_bench') and os.path.isdir(os.path.join(TOP, 'crates'))
+
+
 def settle():
     """From here on the program itself is asked, which ./zy_bench has built by then, and not each time whether it is that of the sources."""
     global PROGRAM
-    built = os.path.join(TOP, 'crates', 'zy_bench', 'out', 'zy_bench')
-    if PROGRAM == os.path.join(TOP, 'zy_bench') and os.path.exists(os.path.join(TOP, 'crates')):
-        ask(['--version'], b'')
-        PROGRAM = built
+    if is_own():
+        ask(['--build'], b'')
+        PROGRAM = os.path.join(TOP, 'crates', 'zy_bench', 'out', 'zy_bench')
 
 
 def ask(words, given, good=(0,), quiet=False):

@@ -1,10 +1,10 @@
 """Proves and builds a program: each crate once those that it uses are proved, with others side by side.
 
-    build.py [zy_bench | zy_first]
+    build.py [zy_bench | zy_first | --takes]
 
 The program is zy_bench, if none is named; zy_first uses fewer crates. What is proved and how long it takes is said first. A line on standard error for
 each crate as it is proved: its time, how many are left, and how long they take by estimate. Behind zy_first comes how the other commands are had. What
-rt writes goes to crates/build.log."""
+rt writes goes to crates/build.log. With --takes it says only what a build of zy_bench takes."""
 
 import math
 import os
@@ -15,20 +15,27 @@ import subprocess
 import sys
 import time
 
+sys.path.insert(0, os.path.dirname(os.path.realpath(__file__)))
+
+from machine import free_memory, processors
+
 TOP = os.path.dirname(os.path.dirname(os.path.realpath(__file__)))
 CRATES = os.path.join(TOP, 'crates')
 LOG = os.path.join(CRATES, 'build.log')
-PROGRAM = sys.argv[1] if sys.argv[1:] else 'zy_bench'
+PROGRAM = sys.argv[1] if sys.argv[1:] and sys.argv[1] != '--takes' else 'zy_bench'
 ROOMS = os.path.join(CRATES, PROGRAM, 'out', 'rooms')
 
 # What one proof takes of memory, in bytes, at most.
 MEMORY = 3 << 30
 
-PROCESSORS = len(os.sched_getaffinity(0))
+PROCESSORS = processors()
 
 RT = (sys.executable, os.path.join(TOP, 'tools', 'rt_once.py'))
 
 FAILED = 70
+
+# A proof that takes less than this part of its minutes was kept, and tells nothing of the pace.
+KEPT = 1 / 20
 
 # Who asked for the program: once that process is gone, nobody waits for it.
 ASKED_BY = os.getppid()
@@ -61,9 +68,7 @@ def minutes():
 
 def side_by_side():
     """How many proofs there is room for: one more than processors, where these are more than two, since a proof by several jobs leaves some of them idle."""
-    with open('/proc/meminfo', encoding='ascii') as file:
-        free = int(re.search(r'MemAvailable: *([0-9]+) kB', file.read()).group(1)) << 10
-    return max(1, min(PROCESSORS + (PROCESSORS > 2), free // MEMORY))
+    return max(1, min(PROCESSORS + (PROCESSORS > 2), free_memory() // MEMORY))
 
 
 def link(source, to):
@@ -145,7 +150,7 @@ class Build:
         self.behind = {}
         for name in self.needs:
             self.weigh(name)
-        self.left, self.under_way, self.done = set(self.needs), [], set()
+        self.left, self.under_way, self.done, self.anew = set(self.needs), [], set(), set()
         self.begun, self.room = time.monotonic(), side_by_side()
         self.jobs = min(PROCESSORS, self.room)
 
@@ -186,23 +191,31 @@ class Build:
                 say('%s: failed after %d s; the last lines of %s:\n%s' % (proof.name, took, LOG, '\n'.join(words.splitlines()[-20:])))
                 return False
             self.done.add(proof.name)
+            if took > self.cost(proof.name) * 60 * KEPT:
+                self.anew.add(proof.name)
             say('%s: proved in %d s%s' % (proof.name, took, self.outlook()))
         return True
 
     def estimate(self):
-        """How many minutes the proofs take on one processor, and by estimate on those that are here: about a fifth of it goes one after the other, however
-        many there are."""
-        total = sum(self.cost(name) for name in self.needs)
-        return math.ceil(total), math.ceil(total / 5 + total * 4 / 5 / self.jobs)
+        """How many minutes the proofs take on one processor, and by estimate on those that are here."""
+        total = self.cost_of(self.needs)
+        return math.ceil(total), math.ceil(self.here(total))
+
+    def here(self, total):
+        """How long minutes of one processor take here, by estimate: about a fifth goes one after the other, however many processors there are."""
+        return total / 5 + total * 4 / 5 / self.jobs
+
+    def cost_of(self, names):
+        return sum(map(self.cost, names))
 
     def outlook(self):
-        """How many crates are left, and how long they take at the pace so far."""
-        left = len(self.needs) - len(self.done)
+        """How many crates are left, and how long they take at the pace so far, or by estimate where nothing was proved anew."""
+        left = self.needs.keys() - self.done
         if not left:
             return ''
-        pace = (time.monotonic() - self.begun) / sum(self.cost(name) for name in self.done)
-        seconds = pace * sum(self.cost(name) for name in self.needs.keys() - self.done)
-        return '; %d left, about %d min' % (left, -(-seconds // 60))
+        total, anew = self.cost_of(left), self.cost_of(self.anew)
+        minutes = total * (time.monotonic() - self.begun) / 60 / anew if anew else self.here(total)
+        return '; %d left, about %d min' % (len(left), math.ceil(minutes))
 
     def stop(self):
         """Ends the proofs that are under way, all of them before one is tidied up."""
@@ -231,6 +244,10 @@ def obey():
 
 
 def main():
+    if sys.argv[1:] == ['--takes']:
+        say('zy_bench: the program is not built of these sources; ./zy_bench --build proves and builds it: by docs/gate.md %d minutes of one processor, and '
+            'about %d here' % Build().estimate())
+        return 0
     obey()
     open(LOG, 'wb').close()
     shutil.rmtree(ROOMS, ignore_errors=True)

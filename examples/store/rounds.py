@@ -104,7 +104,8 @@ def put(text, *path):
 
 def use_program():
     """Where the program is not built, this builds it, and shows how far that is."""
-    if subprocess.run([PROGRAM, '--version'], stdout=subprocess.DEVNULL, check=False).returncode:
+    is_own = PROGRAM == os.path.join(TOP, 'zy_bench') and os.path.isdir(os.path.join(TOP, 'crates'))
+    if subprocess.run([PROGRAM, '--build' if is_own else '--version'], stdout=subprocess.DEVNULL, check=False).returncode:
         raise OSError(errno.ENOEXEC, 'it does not run', PROGRAM)
 
 

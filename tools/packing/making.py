@@ -2,10 +2,11 @@
 
 import os
 import subprocess
+from functools import lru_cache
 from glob import escape, glob
 
-from packing.archive import PLAIN, PROGRAM, Fault
-from packing.record import Release
+from packing.archive import PROGRAM, Fault
+from packing.record import Release, file_at
 
 TOP = os.path.dirname(os.path.dirname(os.path.dirname(os.path.realpath(__file__))))
 SCRIPT = os.path.join(TOP, 'zy_bench')
@@ -18,7 +19,7 @@ ALONG = ('zview', 'zdb', 'zplay', 'zsuite', 'install', 'README.md', 'CONTRIBUTIN
          'examples/store/suite', 'tools/*.py', 'tools/*/*.py', 'tools/*/*.js', 'tools/*/*.css', 'tools/*/*.html', 'tools/suite/programs/*.zephyr')
 
 # What only a checkout needs.
-LEFT_OUT = ('tools/believe.py', 'tools/build.py', 'tools/places.py', 'tools/rt_once.py', 'tools/verify.py')
+LEFT_OUT = ('tools/believe.py', 'tools/build.py', 'tools/machine.py', 'tools/places.py', 'tools/rt_once.py', 'tools/verify.py')
 
 
 class Unbuilt(Exception):
@@ -60,21 +61,48 @@ def along():
     """The files that go along with the program, each a mode and bytes by its name."""
     files = {}
     for path in (path for pattern in ALONG for path in found(pattern)):
-        mode = PROGRAM if os.stat(path).st_mode & 0o100 else PLAIN
-        files[os.path.relpath(path, TOP)] = mode, content(path)
+        files[os.path.relpath(path, TOP)] = file_at(path)
     return files
 
 
 def found(pattern):
-    """The paths of the files with such a name, below the top."""
-    return [path for path in glob(os.path.join(escape(TOP), pattern), recursive=True) if os.path.relpath(path, TOP) not in LEFT_OUT]
+    """The paths of the files with such a name, below the top; in a checkout of git those that it tracks."""
+    paths = (os.path.relpath(path, TOP) for path in glob(os.path.join(escape(TOP), pattern), recursive=True))
+    known = tracked()
+    return [os.path.join(TOP, name) for name in paths if name not in LEFT_OUT and (known is None or name in known)]
+
+
+@lru_cache(maxsize=None)
+def tracked():
+    """The names of the files that git tracks, below the top; None where this is no checkout of git."""
+    if not os.path.exists(os.path.join(TOP, '.git')):
+        return None
+    try:
+        listed = subprocess.run(['git', '-c', 'safe.directory=*', 'ls-files', '-z'], cwd=TOP, stdin=subprocess.DEVNULL, capture_output=True, check=False)
+    except OSError as error:
+        raise Fault('Untold', 'git does not say which files are tracked here: %s' % error.strerror) from None
+    if listed.returncode:
+        raise Fault('Untold', 'git does not say which files are tracked here: %s' % listed.stderr.decode(errors='replace').strip())
+    return frozenset(map(os.fsdecode, listed.stdout.split(b'\0')))
+
+
+def check_along():
+    """A Fault where something is missing that goes along."""
+    for pattern in ALONG:
+        if not found(pattern):
+            raise Fault('Missing', 'there is no %s here' % pattern)
+
+
+def installable():
+    """The files of the release of this checkout, without what that says of itself."""
+    check_along()
+    ask('--build')
+    return {'zy_bench': (PROGRAM, content(BUILT)), **along()}
 
 
 def whole(release):
     """The release, where nothing is missing that goes along, and where its toolchain is known."""
-    for pattern in ALONG:
-        if not found(pattern):
-            raise Fault('Missing', 'there is no %s here' % pattern)
+    check_along()
     if not release.toolchain:
         raise Fault('NoToolchain', 'it is not noted with which toolchain the program was built: remove %s.sum, and it is built again' % (
             os.path.relpath(BUILT, TOP)))

@@ -2,6 +2,7 @@
 was proved from, and SHA256SUMS that of each other file of the release. The latter two are as `sha256sum` writes them and checks them."""
 
 import hashlib
+import os
 import re
 from collections import namedtuple
 
@@ -48,6 +49,20 @@ def files_in(given):
     if 'zy_bench' not in files or files['zy_bench'][0] != PROGRAM:
         raise Fault('Damaged', "there is no program 'zy_bench' in it")
     return files
+
+
+def laid_out(folder):
+    """The files of a release that is unpacked in a folder, as its SHA256SUMS lists them; a Fault where one is another."""
+    files = {SUMS: file_at(os.path.join(folder, SUMS))}
+    files.update({name: file_at(os.path.join(folder, name)) for name in sums_in(files, SUMS)})
+    check_sums(files)
+    return files
+
+
+def file_at(path):
+    """The mode that a file has in a release, and its bytes."""
+    with open(path, 'rb') as file:
+        return PROGRAM if os.fstat(file.fileno()).st_mode & 0o100 else PLAIN, file.read()
 
 
 def toolchain_in(files):
