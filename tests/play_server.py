@@ -4,6 +4,7 @@ import importlib.machinery
 import json
 import os
 import re
+import shlex
 import shutil
 import signal
 import socket
@@ -311,7 +312,10 @@ def unbuilt():
             shutil.copytree(os.path.join(TOP, name), os.path.join(work, name), ignore=shutil.ignore_patterns('__pycache__'))
         shutil.copy(ZPLAY, work)
         os.makedirs(os.path.join(work, 'crates', 'zy_bench', 'out'))
-        os.symlink(PROGRAM, os.path.join(work, 'zy_bench'))
+        launcher = os.path.join(work, 'zy_bench')
+        with open(launcher, 'w', encoding='utf-8') as file:
+            file.write('#!/bin/sh\n[ "$1" = --build ] || exec %s "$@"\n' % shlex.quote(PROGRAM))
+        os.chmod(launcher, 0o755)
         first = said_first(os.path.join(work, 'zplay'))
         os.symlink(PROGRAM, os.path.join(work, 'crates', 'zy_bench', 'out', 'zy_bench'))
         later = said_first(os.path.join(work, 'zplay'))
