@@ -85,7 +85,8 @@ def group_of(path):
     if LEFT_OUT.match(path) or path == CONTRIBUTING:
         return None
     if first == 'crates':
-        return 'tests' if rest[0] in ('zy_tests', 'zy_refusals') else FOLDERS.get(rest[1])
+        crate, *inner = rest
+        return 'tests' if crate in ('zy_tests', 'zy_refusals') else FOLDERS.get(inner[0]) if inner else None
     return FOLDERS.get(first, 'scripts')
 
 
