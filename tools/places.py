@@ -76,7 +76,7 @@ def files_in(name):
     """The files of a folder, or a file by itself, by their paths in the repository."""
     top = os.path.join(TOP, name)
     found = [top] if os.path.isfile(top) else glob.glob(os.path.join(glob.escape(top), '**', '*'), recursive=True)
-    return sorted(os.path.relpath(path, TOP) for path in found if os.path.isfile(path) and '__pycache__' not in path)
+    return sorted(os.path.relpath(path, TOP) for path in found if '/out/' not in path and '__pycache__' not in path and os.path.isfile(path))
 
 
 def group_of(path):
