@@ -634,7 +634,7 @@ PROGRAM_FAULTS = [
     program(4, '--ring ignored', COMMAND_LINE,
             'ring: debug.get_one("ring").unwrap_or(16)', 'ring: 16', 'make the same copies', 'limits copies-chosen'),
     program(4, 'a listing is kept back whole', 'zy_bench/src/output.rt',
-            'const HELD: usize = 8192;', 'const HELD: usize = 4194304;', 'writes: ', 'limits writes'),
+            'const MOST_PENDING: usize = 8192;', 'const MOST_PENDING: usize = 4194304;', 'writes: ', 'limits writes'),
     program(1, 'search names no order', 'zy_bench/src/answering.rt',
             'comment_found(rt, quest.options, is_of_waits, scenario, path);', '();', 'search: status 0', 'orders 1'),
     program(2, 'search names the order before the choices that it has found', 'zy_bench/src/answering.rt',

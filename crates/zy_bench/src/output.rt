@@ -6,10 +6,10 @@ use std::io;
 use std::io::Write;
 use std::marker::Model;
 use zy_engine::BenchFault;
-use zy_io::{Buffered, CountingWriter, Held, Patient, Sink};
+use zy_io::{Buffered, CountingWriter, Patient, Pending, Sink};
 
 /// How many bytes are kept back at most.
-const HELD: usize = 8192;
+const MOST_PENDING: usize = 8192;
 
 /// What commands write to: it keeps bytes back, and passes on many at a time.
 pub type Output<W> = Buffered<PipeSink<Patient<W>>>;
@@ -18,8 +18,8 @@ pub type Output<W> = Buffered<PipeSink<Patient<W>>>;
 pub fn output_to<W: Drop>(alloc: Global, writer: W) -> Result<Output<W>, AllocError>
     ensures { IfOk result (λ o. o.sink.1 ≡ 0) }
 {
-    let held = Held::new(alloc, HELD)?;
-    Ok(Buffered::new(PipeSink::new(Patient::new(writer)), held))
+    let pending = Pending::new(alloc, MOST_PENDING)?;
+    Ok(Buffered::new(PipeSink::new(Patient::new(writer)), pending))
 }
 
 /// A sink over a writer that notes whether a call has failed since nobody reads any more.

@@ -17,10 +17,10 @@ use std::alloc::Global;
 use std::io;
 use std::io::{Read, Write};
 use std::process::ExitCode;
-use zy_io::{Buffered, CountingReader, CountingWriter, Held, Patient, Source};
+use zy_io::{Buffered, CountingReader, CountingWriter, Patient, Pending, Source};
 
 /// How many bytes of a listing are kept back at most.
-const HELD: usize = 8192;
+const MOST_PENDING: usize = 8192;
 
 /// Writes the listing of the scenario that is given, whose bytes it leaves in `input`.
 fn list<G: Read, W: Write>(
@@ -30,8 +30,8 @@ fn list<G: Read, W: Write>(
     input: &mut Vec<u8>,
 ) -> Result<(), RunFault> {
     let mut source = CountingReader::new(given);
-    let held = Held::new(alloc, HELD)?;
-    let mut sink = Buffered::new(CountingWriter::new(output), held);
+    let pending = Pending::new(alloc, MOST_PENDING)?;
+    let mut sink = Buffered::new(CountingWriter::new(output), pending);
     let listed = list_to(alloc, &mut source, &mut sink, input);
     // Of a listing that ends with a fault, what was written goes out, too.
     if listed.is_err() && sink.sink().failures() == 0 {

@@ -4,9 +4,9 @@ ghost use Rattle.std.specs.Prelude.{vec_capacity, vec_len};
 
 use crate::appending::with_all;
 use crate::piece::Piece;
-use core::mem::replace_with;
 use std::alloc::{AllocError, Global};
 use std::marker::Model;
+use std::mem;
 
 /// The bytes of a line, or of some, before they go out.
 #[derive(Drop)]
@@ -84,7 +84,7 @@ impl LineBuffer {
         ensures bytes { self.new ≡ (if is_ok result then self.old ++ bytes.now else self.old) }
     {
         self.bytes.reserve(bytes.len())?;
-        replace_with(&mut self.bytes, bytes, with_bytes);
+        self.bytes = with_all(taken(&mut self.bytes), bytes);
         Ok(())
     }
 
@@ -95,7 +95,7 @@ impl LineBuffer {
         ensures bytes { self.new ≡ (if is_ok result then self.old ++ P.text piece else self.old) }
     {
         self.bytes.reserve(LONGEST)?;
-        replace_with(&mut self.bytes, piece, with_text);
+        self.bytes = piece.put_behind(taken(&mut self.bytes));
         Ok(())
     }
 }
@@ -103,20 +103,11 @@ impl LineBuffer {
 /// The most bytes that a piece has.
 const LONGEST: usize = 160;
 
-/// Puts a piece behind other bytes.
+/// The bytes, for which none are left. They come by value, so that where they lie need not be read again after each.
 #[inline(always)]
-fn with_text<P: Piece>(bytes: Vec<u8>, piece: P) -> (Vec<u8>, ())
-    requires { vec_len bytes + P.most ≤ vec_capacity bytes }
-    ensures { result.0.items ≡ bytes.items ++ P.text piece }
+fn taken(bytes: &mut Vec<u8>) -> Vec<u8>
+    ensures { result ≡ bytes.old }
 {
-    (piece.put_behind(bytes), ())
-}
-
-/// Puts bytes behind others.
-#[inline(always)]
-fn with_bytes(bytes: Vec<u8>, others: &[u8]) -> (Vec<u8>, ())
-    requires { vec_len bytes + length others.now ≤ vec_capacity bytes }
-    ensures { result.0.items ≡ bytes.items ++ others.now }
-{
-    (with_all(bytes, others), ())
+    let none = Vec::new(*bytes.allocator());
+    mem::replace(bytes, none)
 }

@@ -4,7 +4,7 @@ ghost use Rattle.std.specs.Prelude.{is_err, length, take};
 ghost use Rattle.std.specs.Io.KnownBytes.{Appends, Keeps, append_known};
 ghost use Rattle.zy_io.specs.Streams.{WritesAll};
 
-use crate::held::Held;
+use crate::pending::Pending;
 use crate::stream::Sink;
 use crate::writing::WriteFault;
 use std::io;
@@ -14,15 +14,15 @@ use std::io;
 #[derive(Drop)]
 pub struct Buffered<K> {
     sink: K,
-    held: Held,
+    pending: Pending,
 }
 
 impl<K> Buffered<K> {
     /// Keeps back these bytes, and others where there is room for them.
-    pub fn new(sink: K, held: Held) -> Buffered<K>
-        ensures { result ≡ record { sink = sink; held = held } }
+    pub fn new(sink: K, pending: Pending) -> Buffered<K>
+        ensures { result ≡ record { sink = sink; pending = pending } }
     {
-        Buffered { sink, held }
+        Buffered { sink, pending }
     }
 
     /// The sink that the bytes go to.
@@ -37,13 +37,13 @@ impl<K: Sink> Buffered<K> {
     /// Passes on what is kept back, up to the first call of the sink that fails or takes none.
     pub fn pass(&mut self) -> Result<(), WriteFault>
         requires { K.failures self.old.sink < u64.MAX }
-        ensures empty { OnOk result (self.new.held ≡ []) }
-        ensures bytes { Keeps (append_known (K.written self.old.sink) self.old.held)
-            (append_known (K.written self.new.sink) self.new.held) }
+        ensures empty { OnOk result (self.new.pending ≡ []) }
+        ensures bytes { Keeps (append_known (K.written self.old.sink) self.old.pending)
+            (append_known (K.written self.new.sink) self.new.pending) }
         ensures failed { K.failures self.new.sink ≡ K.failures self.old.sink + (if is_err result then 1 else 0) }
     {
-        let (given, outcome) = give(&mut self.sink, self.held.as_slice());
-        self.held.drop_front(given);
+        let (given, outcome) = give(&mut self.sink, self.pending.as_slice());
+        self.pending.drop_front(given);
         outcome
     }
 
@@ -52,12 +52,12 @@ impl<K: Sink> Buffered<K> {
     #[inline(never)]
     fn put_many(&mut self, bytes: &[u8]) -> Result<(), WriteFault>
         requires { K.failures self.old.sink < u64.MAX }
-        ensures { WritesAll (append_known (K.written self.old.sink) self.old.held)
-            (append_known (K.written self.new.sink) self.new.held)
+        ensures { WritesAll (append_known (K.written self.old.sink) self.old.pending)
+            (append_known (K.written self.new.sink) self.new.pending)
             (K.failures self.old.sink) (K.failures self.new.sink) result bytes.now }
     {
         self.pass()?;
-        if self.held.keep(bytes) {
+        if self.pending.keep(bytes) {
             return Ok(());
         }
         self.sink.put_all(bytes)
@@ -66,12 +66,12 @@ impl<K: Sink> Buffered<K> {
 
 /// What is kept back counts as written.
 impl<K: Sink> Sink for Buffered<K> {
-    ghost written = { λ s. append_known (K.written s.sink) s.held };
+    ghost written = { λ s. append_known (K.written s.sink) s.pending };
 
     ghost failures = { λ s. K.failures s.sink };
 
     fn put(&mut self, bytes: &[u8]) -> io::Result<usize> {
-        if bytes.is_empty() || self.held.keep(bytes) {
+        if bytes.is_empty() || self.pending.keep(bytes) {
             return Ok(bytes.len());
         }
         match self.pass() {
@@ -82,7 +82,7 @@ impl<K: Sink> Sink for Buffered<K> {
 
     #[inline(always)]
     fn put_all(&mut self, bytes: &[u8]) -> Result<(), WriteFault> {
-        if self.held.keep(bytes) {
+        if self.pending.keep(bytes) {
             return Ok(());
         }
         self.put_many(bytes)

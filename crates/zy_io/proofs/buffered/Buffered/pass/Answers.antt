@@ -12,6 +12,6 @@ returns-clause-empty g c =
 pub returns-clause-bytes : goal.returns-clause-bytes
 returns-clause-bytes g c =
     let n = c.give-given.result.0 in
-    let held = c.as_slice.result.now in
+    let pending = c.as_slice.result.now in
     let rest = c.drop_front.ensures ∙ ap (drop n) (sym c.as_slice.ensures.value) in
-    append_known-moved _ _ _ _ _ c.give-given.ensures.bytes (sym c.as_slice.ensures.value ∙ sym (take-append-drop n held) ∙ ap (λ l. take n held ++ l) (sym rest))
+    append_known-moved _ _ _ _ _ c.give-given.ensures.bytes (sym c.as_slice.ensures.value ∙ sym (take-append-drop n pending) ∙ ap (λ l. take n pending ++ l) (sym rest))

@@ -3,7 +3,7 @@ use Rattle.std.proofs.Common.{◌≡◌, ◌≤◌, ◌+◌, ◌-◌, min, lengt
 use lib.Seq.{paste}
 use Rattle.std.proofs.lemmas.List.{with_items_is, places, drop-take, take_min}
 use Rattle.std.proofs.lemmas.List.Edits.{take-paste}
-use Rattle.zy_io.proofs.held.Held.drop_front.Goals as goal
+use Rattle.zy_io.proofs.pending.Pending.drop_front.Goals as goal
 
 pub returns : goal.returns
 returns c =

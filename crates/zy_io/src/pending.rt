@@ -6,12 +6,12 @@ use std::marker::Model;
 
 /// Bytes that are kept back, in memory of a fixed size.
 #[derive(Drop)]
-pub struct Held {
+pub struct Pending {
     memory: Vec<u8>,
     count: usize,
 }
 
-impl Model for Held {
+impl Model for Pending {
     ghost use Rattle.std.specs.Prelude.{List, ℕ, take};
 
     ghost Value = { List ℕ };
@@ -19,13 +19,13 @@ impl Model for Held {
     ghost view = { λ h. take h.count h.memory.items };
 }
 
-impl Held {
+impl Pending {
     /// No bytes yet, and never more than this many.
-    pub fn new(alloc: Global, most: usize) -> Result<Held, AllocError>
+    pub fn new(alloc: Global, most: usize) -> Result<Pending, AllocError>
         ensures { IfOk result (λ h. h ≡ []) }
     {
         let memory = Vec::from_elem(alloc, 0, most)?;
-        Ok(Held { memory, count: 0 })
+        Ok(Pending { memory, count: 0 })
     }
 
     /// The bytes.
