@@ -561,7 +561,7 @@ SCRIPT_FAULTS = [
     script('zy_bench: Python is not looked for', 'zy_bench', '  command -v python3 > /dev/null && return\n', '  return\n', 'releases missing'),
     script('test: rt is not looked for', 'test', 'for needed in rt python3', 'for needed in python3', 'releases missing'),
     script('zplay: it says that it builds where there is no rt', 'zplay', " and shutil.which('rt'):", ':', 'releases missing'),
-    script('zplay: it does not say that the page opens later', 'zplay', '    say_what_comes()\n    bench', '    bench', 'releases unbuilt'),
+    script('zplay: it does not say that the page opens later', 'zplay', '    say_what_comes()\n    if bench', '    if bench', 'releases unbuilt'),
     script('zsuite: a fault without words has a line', 'tools/bench.py', '        if self.line():\n', '        if True:\n', 'releases missing'),
     script('store: the end is not compared', 'examples/store/rounds.py', 'if pair[0] != pair[1]]', 'if False]', 'store'),
     script('store: a lock of another transaction is overlooked', 'examples/store/node.py', "if 'exclusive' in others or others and", 'if others and', 'store'),

@@ -7,6 +7,8 @@ from collections import Counter, namedtuple
 from functools import cached_property
 
 from alone import Aborted, instruction
+from plain_goals import place_of
+from plain_search import onward
 from plain_table import LAST_KEY, NOBODY, NODES, database, is_locked, is_missing_some, node_of, opening, other, rows_of
 
 # A choice that was made: the states before it and after it, and the node whose side it is made from.
@@ -193,7 +195,8 @@ def page_in(lows, key):
 
 
 def one_wireframe(run):
-    """Of two wireframes one is the source's, which begins the other; until the destination is normal they are the same. One on its way is the source's."""
+    """If both nodes have a wireframe, one node is the source, and its wireframe is a prefix of the other's; they are the same until the destination is
+    normal. A node that has a wireframe on its way is the source, and the wireframe is its own."""
     return all(has_one_wireframe(state, name) for state in run.states for name in NODES)
 
 
@@ -216,7 +219,7 @@ def is_nothing_left(state, empty):
 
 
 def exclusive_alone(run):
-    """Whoever has a page's exclusive lock is the only one that has a lock on it."""
+    """An exclusive lock is alone on its page, at its node."""
     return all(not is_locked(node, page, t, True) for state in run.states for node in state.nodes for page, t, exclusive in node.locks if exclusive)
 
 
@@ -257,7 +260,8 @@ def commits_listed(run):
 
 
 def on_its_way(run):
-    """A page is asked for only by a destination that lacks it, and is on its way; it is asked for once."""
+    """Each page that a node asked for is on its way: its pull to the other node, or the page itself back. The node is a destination that lacks the page. At
+    most one pull of it is on the link at a time, and each pull is of a page that the node asked for or has."""
     return all(is_on_its_way(state, name) for state in run.states for name in NODES)
 
 
@@ -307,7 +311,7 @@ def is_one_more(old, new):
 
 
 def sent_is_said(run):
-    """A message that is sent is put at the end of the acting node's outbound link."""
+    """Where a step sends a message, it is put at the end of the acting node's outbound link, and else nothing is."""
     return all(is_one_more(outbox(step.before, step.side), outbox(step.after, step.side)) for step in run.steps)
 
 
@@ -318,18 +322,11 @@ def pages_travel(run):
 
 def has_travelled(step, page):
     me, before, after = node_of(step.before, step.side), place_of(step.before, page), place_of(step.after, page)
+    there = other(step.side)
     return (after == before
-            or before is None and after == step.side and step.outcome.startswith('split') and step.outcome.split()[2] == str(page) and me.mode == 'normal'
-            or before == step.side and after == 'from ' + step.side and me.mode in SOURCES
-            or before == 'from ' + other(step.side) and after == step.side and me.mode in PULLING)
-
-
-def place_of(state, page):
-    """Where a page is: at a node, or in a message from one."""
-    for name in NODES:
-        if rows_of(node_of(state, name), page) is not None:
-            return name
-    return next(('from ' + name for name in NODES if page in in_link(outbox(state, name), 'page')), None)
+            or not before and after == step.side and step.outcome.startswith('split') and step.outcome.split()[2] == str(page) and me.mode == 'normal'
+            or before == step.side and after == step.side + there and me.mode in SOURCES
+            or before == there + step.side and after == step.side and me.mode in PULLING)
 
 
 def commits_alone(run):
@@ -343,12 +340,12 @@ def gone_in_dual(run):
 
 
 def commit_number(run):
-    """The number of a commit is that of the commits there are with it."""
+    """The number of a commit is how many commits there are after the step."""
     return all(step.outcome == 'committed %d' % len(step.after.commits) for step in run.steps if step.outcome.startswith('committed'))
 
 
 def done_counts(run):
-    """A transaction did one instruction more where a run of it gives `did` or a commit; its registers change at `did` alone."""
+    """A transaction did one instruction more where a run of it gives `did` or a commit, and none elsewhere; its registers change at `did` alone."""
     return all(is_counted(step, t) for step in run.steps for t in range(len(step.before.txns)))
 
 
@@ -383,7 +380,7 @@ def a_start_acts(run):
 # The reasons of refusals
 
 def a_refusal_has_its_reason(run):
-    """Where an outcome says that a choice has come to nothing, or that a transaction aborts or asks for a page, it has its reason."""
+    """`waits`, `pulls`, `awaits`, `notyet`, `active`, `held`, `stale` and each abort come only where their reason holds."""
     parts = [(step, *parted(step.outcome)) for step in run.steps]
     return all(REASONS[word](Asked(run.scenario, step), *map(int, numbers)) for step, word, numbers in parts if word in REASONS)
 
@@ -473,7 +470,7 @@ def ended(run, state):
         if txn.status == 'active':
             state = run.after(state, ('C', 'kill', t))
     for _ in range(enough(state)):
-        choice = next_choice(state)
+        choice = onward(state)
         if not choice:
             break
         state = run.after(state, choice)
@@ -483,15 +480,6 @@ def ended(run, state):
 def enough(state):
     """As many choices as there can be: two for each page, one for each message, and ten."""
     return 2 * sum(len(node.pages) for node in state.nodes) + sum(len(link) for link in state.links) + 10
-
-
-def next_choice(state):
-    """The choice that comes next on the way out."""
-    for name in 'BA':
-        if inbox(state, name):
-            return name, 'take', None
-    actions = {'sdual': 'finish', 'sfinish': 'push'}
-    return next(((name, actions[node_of(state, name).mode], None) for name in NODES if node_of(state, name).mode in actions), None)
 
 
 def is_ended(state, later):
@@ -523,10 +511,9 @@ def goes_on(run, state, t):
 def with_all_taken(run, state):
     """The state after takes, while there is a message and at most as many as the way out has."""
     for _ in range(enough(state)):
-        name = next((name for name in 'BA' if inbox(state, name)), None)
-        if name is None:
+        if not any(state.links):
             break
-        state = run.after(state, (name, 'take', None))
+        state = run.after(state, onward(state))
     return state
 
 

@@ -33,7 +33,7 @@ def random_run(number, step):
         divide(chance, walk)
     choices = [choice for choice in considered(scenario, True) if not is_crowd or choice[1] in ('begin', 'run', 'kill')]
     length = len(walk.made) + chance.choice((15, 30, 50, 75))
-    while len(walk.made) < length and not is_over(walk.state):
+    while len(walk.made) < length and not have_all_ended(walk.state):
         weights = random_weights(chance, choices)
         for _ in range(chance.randint(2, MOOD)):
             before = walk.state
@@ -90,7 +90,7 @@ def divide(chance, walk):
         walk.make(choice)
 
 
-def is_over(state):
+def have_all_ended(state):
     """Whether each transaction has ended, and no migration is under way."""
     return all(txn.status in ('committed', 'aborted') for txn in state.txns) and {node.mode for node in state.nodes} == {'normal', 'empty'}
 

@@ -14,6 +14,9 @@ TOP = os.path.dirname(os.path.dirname(os.path.realpath(__file__)))
 # ZY_BENCH names another program than the one of this checkout.
 PROGRAM = os.environ.get('ZY_BENCH') or os.path.join(TOP, 'zy_bench')
 
+# Where ./zy_bench puts the program of this checkout.
+BUILT = os.path.join(TOP, 'crates', 'zy_bench', 'out', 'zy_bench')
+
 # Lone bytes that are no UTF-8 go through a text unchanged.
 BYTES = {'encoding': 'utf-8', 'errors': 'surrogateescape'}
 
@@ -61,7 +64,7 @@ def settle():
     global PROGRAM
     if is_own():
         ask(['--build'], b'')
-        PROGRAM = os.path.join(TOP, 'crates', 'zy_bench', 'out', 'zy_bench')
+        PROGRAM = BUILT
 
 
 def ask(words, given, good=(0,), quiet=False):
