@@ -19,7 +19,7 @@ ALONG = ('zview', 'zdb', 'zplay', 'zsuite', 'install', 'README.md', 'CONTRIBUTIN
          'examples/store/suite', 'tools/*.py', 'tools/*/*.py', 'tools/*/*.js', 'tools/*/*.css', 'tools/*/*.html', 'tools/suite/programs/*.zephyr')
 
 # What only a checkout needs.
-LEFT_OUT = ('tools/believe.py', 'tools/build.py', 'tools/machine.py', 'tools/places.py', 'tools/rt_once.py', 'tools/verify.py')
+LEFT_OUT = ('tools/believe.py', 'tools/build.py', 'tools/machine.py', 'tools/mentions.py', 'tools/rt_once.py', 'tools/verify.py')
 
 
 class Unbuilt(Exception):

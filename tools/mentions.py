@@ -1,9 +1,9 @@
 #!/usr/bin/env python3
 """Finds the files that name an instruction, a choice, an outcome, a fact of goals or the like: those that a new one touches, too.
 
-    tools/places.py KIND EXAMPLE    prints the files that name the example, by group
-    tools/places.py --write         puts the lists of CONTRIBUTING.md there again, each below a line `<!--places KIND EXAMPLE-->`
-    tools/places.py --check         compares them with those there; the status is 0 where they are the same, and 1 where they are not
+    tools/mentions.py KIND EXAMPLE    prints the files that name the example, by group
+    tools/mentions.py --write         puts the lists of CONTRIBUTING.md there again, each below a line `<!--mentions KIND EXAMPLE-->`
+    tools/mentions.py --check         compares them with those there; the status is 0 where they are the same, and 1 where they are not
 
 Such a line may go on with `beyond KIND EXAMPLE`, which takes out the files of another example, and with `in GROUP`.
 
@@ -48,7 +48,7 @@ GROUPS = ('definitions', 'code', 'proofs', 'scripts', 'tests', 'docs', 'editors'
 FOLDERS = {'specs': 'definitions', 'src': 'code', 'proofs': 'proofs', 'tests': 'tests', 'docs': 'docs', 'README.md': 'docs', 'editors': 'editors',
            'completions': 'editors'}
 LOOKED_AT = ('crates', 'tools', 'zy_bench', 'zdb', 'zplay', 'zsuite', 'zview', 'examples/store', 'tests', 'docs', 'README.md', 'editors', 'completions')
-LEFT_OUT = re.compile(r'tests/(cases/(?!help-of)|mutants/|asked/|needed-runs|faults\.py|places)|docs/(believe\.md|logs/|pictures/)|tools/places\.py|.*\.zephyr$')
+LEFT_OUT = re.compile(r'tests/(cases/(?!help-of)|mutants/|asked/|needed-runs|faults\.py|mentions)|docs/(believe\.md|logs/|pictures/)|tools/mentions\.py|.*\.zephyr$')
 
 ENUM = re.compile(r'^(?:pub(?:\(crate\))? )?enum (\w+)[^{]*\{\n(.*?)^\}', re.MULTILINE | re.DOTALL)
 VARIANT = re.compile(r'^    (\w+)', re.MULTILINE)
@@ -57,7 +57,7 @@ DATA = re.compile(r'^pub data (\w+).*? where\n((?:  .*\n)+)', re.MULTILINE)
 CONSTRUCTOR = re.compile(r'^  (\w+) :', re.MULTILINE)
 LITERAL = re.compile(r'"((?:[^"\\]|\\.)*)"', re.DOTALL)
 WORD = re.compile(r'\w+')
-LIST = re.compile(r'^(<!--places (\w+) (\w+)(?: beyond (\w+) (\w+))?(?: in (\w+))?-->\n)(?:- .*\n)*', re.MULTILINE)
+LIST = re.compile(r'^(<!--mentions (\w+) (\w+)(?: beyond (\w+) (\w+))?(?: in (\w+))?-->\n)(?:- .*\n)*', re.MULTILINE)
 
 Type = collections.namedtuple('Type', 'file name names')
 
@@ -203,7 +203,7 @@ def variants(kind, example):
     return [(one.file, one.name, name) for one in types_of(KINDS[kind]) for name in one.names if spelled(name) == spelled(example)]
 
 
-def places(kind, example):
+def mentions(kind, example):
     """The files that name an example, by group."""
     found, known = {group: [] for group in GROUPS}, variants(kind, example)
     homes = {file for file, _, _ in known}
@@ -228,7 +228,7 @@ def folded(paths):
 
 def listed(kind, example, other_kind=None, other=None, only=None):
     """The list of an example, without the files of another one, line by line."""
-    found, less = places(kind, example), places(other_kind, other) if other else {}
+    found, less = mentions(kind, example), mentions(other_kind, other) if other else {}
     for group in [only] if only else GROUPS:
         paths = [path for path in found[group] if path not in less.get(group, ())]
         if paths:
@@ -250,10 +250,10 @@ def main(words):
     if words == ['--check']:
         if guide() == content(CONTRIBUTING):
             return 0
-        print('a list of CONTRIBUTING.md is not what tools/places.py finds: tools/places.py --write puts it right', file=sys.stderr)
+        print('a list of CONTRIBUTING.md is not what tools/mentions.py finds: tools/mentions.py --write puts it right', file=sys.stderr)
         return 1
     if len(words) != 2 or words[0] not in KINDS:
-        print('places.py: takes --write, --check, or a kind and an example: %s' % ' '.join(KINDS), file=sys.stderr)
+        print('mentions.py: takes --write, --check, or a kind and an example: %s' % ' '.join(KINDS), file=sys.stderr)
         return 2
     sys.stdout.writelines(listed(*words))
     return 0
