@@ -11,7 +11,7 @@ from contextlib import contextmanager, suppress
 
 from packing.archive import PLAIN, Fault
 from packing.places import LINKS, SHARE, places_of
-from packing.record import sum_of
+from packing.record import content, sum_of
 
 FIRST = b'zy_bench installed 1\n'
 
@@ -25,11 +25,6 @@ Record = namedtuple('Record', 'names folders')
 
 class Foreign(Exception):
     """Something that belongs to no installation is in the place of what would be installed."""
-
-
-def content(path):
-    with open(path, 'rb') as file:
-        return file.read()
 
 
 def found_at(path):

@@ -6,7 +6,7 @@ from functools import lru_cache
 from glob import escape, glob
 
 from packing.archive import PROGRAM, Fault
-from packing.record import Release, file_at
+from packing.record import Release, content, file_at
 
 TOP = os.path.dirname(os.path.dirname(os.path.dirname(os.path.realpath(__file__))))
 SCRIPT = os.path.join(TOP, 'zy_bench')
@@ -32,11 +32,6 @@ def ask(*words):
     if done.returncode:
         raise Unbuilt(done.returncode if done.returncode > 0 else 128 - done.returncode)
     return done.stdout
-
-
-def content(path):
-    with open(path, 'rb') as file:
-        return file.read()
 
 
 def made():

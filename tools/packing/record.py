@@ -16,8 +16,14 @@ RELEASE, SOURCES, SUMS = 'RELEASE', 'SOURCES', 'SHA256SUMS'
 Release = namedtuple('Release', 'toolchain sources files')
 
 
-def sum_of(content):
-    return hashlib.sha256(content).hexdigest()
+def sum_of(given):
+    return hashlib.sha256(given).hexdigest()
+
+
+def content(path):
+    """The bytes of a file."""
+    with open(path, 'rb') as file:
+        return file.read()
 
 
 def listed(sums):
@@ -30,7 +36,7 @@ def written(release):
     files = {**release.files,
              RELEASE: (PLAIN, ('%s\ntoolchain %s\n' % (FORM, release.toolchain)).encode()),
              SOURCES: (PLAIN, listed(release.sources))}
-    sums = listed({name: sum_of(content) for name, (_, content) in files.items()})
+    sums = listed({name: sum_of(given) for name, (_, given) in files.items()})
     return packed({**files, SUMS: (PLAIN, sums)})
 
 
