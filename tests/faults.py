@@ -671,7 +671,7 @@ PROGRAM_FAULTS = [
         ('crates/' + COMMAND_LINE, 'ring: debug.get_one("ring")', 'ring: debug.get_one("every")')],
         ('limits copies-chosen copies-kept',), 5, 'copies-(chosen|kept)'),
     program(5, 'nothing is kept back', 'zy_bench/src/output.rt',
-            'const HELD: usize = 8192;', 'const HELD: usize = 1;', 'writes: ', 'limits writes'),
+            'const MOST_PENDING: usize = 8192;', 'const MOST_PENDING: usize = 1;', 'writes: ', 'limits writes'),
     program(6, 'what is written before a fault stays back', 'zy_bench/src/output.rt',
             'if output.sink().failures() == 0 {', 'if output.sink().failures() == 64 {', '^first-run: no run of which memory', 'refusals first-run'),
     program(6, '--from ignored', COMMAND_LINE, 'from: words.get_one("from").map(', 'from: None::<u16>.map(', '^search-from-lacking', 'run'),
