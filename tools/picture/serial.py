@@ -16,7 +16,7 @@ def ended_alike(words, done):
 
 
 def alone(run, order, done):
-    """The listing of the committed programs, which begin and run one by one on pages that no insert finds full."""
+    """The listing of the committed transactions, which begin and run one by one on pages that no insert finds full."""
     first = next(n for n, line in enumerate(run.scenario) if line.split()[0] in ('A', 'B', 'C', 'end'))
     head = ['zephyr ' + run.version, 'cap 16', 'pages 512', 'rule held']
     choices = ['C begin %d\nA run %d x %d' % (txn, txn, done[txn] + 8) for txn in order]
@@ -46,7 +46,7 @@ def migration_order(run):
 
 
 def differences(run):
-    """(key, value here, value in the serial run) of each row that differs. The program itself runs the committed programs one by one; where
+    """(key, value here, value in the serial run) of each row that differs. The program itself runs the committed transactions one by one; where
     one of them does not end there as in the serial run, or they are too long for a scenario, nothing is said."""
     if run.verdict != 'serial differs':
         return []

@@ -1,4 +1,4 @@
-"""The verdict on a run up to the cursor: the database, that of the committed programs run one by one, and the order that explains the rows."""
+"""The verdict on a run up to the cursor: the database, that of the committed transactions run one by one, and the order that explains the rows."""
 
 import re
 
@@ -11,7 +11,7 @@ EXPLAINED = re.compile(r'the rows are those of ([\d, ]+) in this order')
 
 
 def verdict_of(asked):
-    """The verdict; each row as its key, its value here, and its value where the committed programs run one by one in the order of their commits.
+    """The verdict; each row as its key, its value here, and its value where the committed transactions run one by one in the order of their commits.
     Where those values are not known there are none."""
     lines, said = bench.answer(['run'], asked['text'].encode(**bench.BYTES))
     final = lines[lines.index('final') + 1:]

@@ -1,4 +1,4 @@
--- Why the database is that of the committed programs, run one by one.
+-- Why the database is that of the committed transactions, run one by one.
 pub mod Listed
 pub mod LoneRuns
 pub mod Following

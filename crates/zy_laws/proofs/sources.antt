@@ -1,4 +1,4 @@
--- Why the database is that of the committed programs, run one by one, within each migration those at its source first.
+-- Why the database is that of the committed transactions, run one by one, within each migration those at its source first.
 pub mod Aside
 pub mod Halves
 pub mod Going

@@ -56,7 +56,7 @@ abbrev pub commits_at : Node → State → List CommitRecord
 commits_at n s = at_node n s s.commits
 
 -- a state is serial in an order: the order is the commit list rearranged, the database is that of the committed
--- programs, run one by one in it, and each committed transaction has the registers of its lone run there
+-- transactions, run one by one in it, and each committed transaction has the registers of its lone run there
 pub record SerialIn (order : List CommitRecord) (sc : Scenario) (s : State) : Type 0 where
   pub one_by_one : database s ≡ serial sc (laid sc.rows empty) order
   pub permuted : IsPermutation s.commits order

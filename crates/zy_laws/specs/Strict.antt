@@ -18,7 +18,7 @@ AllPlaced sc choices = (n t : ℕ) → is_active (txns_after sc choices n t).sta
 
 -- the run of these choices is strictly serializable, in the migration order
 pub record StrictlySerializable (sc : Scenario) (choices : List Choice) : Type 0 where
-  -- database and registers are those of the committed programs, run one by one in this order
+  -- database and registers are those of the committed transactions, run one by one in this order
   pub serial : SerialIn (migration_order sc choices) sc (play sc (opening sc) choices)
   -- each of these lone runs ends by its commit
   pub ended : AllEnd sc (laid sc.rows empty) (migration_order sc choices)

@@ -17,7 +17,7 @@ OwnedThroughout sc choices = (n : ℕ) → OneOwner (play sc (opening sc) (take 
 abbrev pub StrictThroughout : Scenario → List Choice → Type 0
 StrictThroughout sc choices = (n : ℕ) → StrictlySerializable sc (take n choices)
 
--- under held the database is that of the committed programs, run one by one in commit order
+-- under held the database is that of the committed transactions, run one by one in commit order
 abbrev pub SerialThroughout : Scenario → List Choice → Type 0
 SerialThroughout sc choices = sc.rule ≡ Held → (n : ℕ) → Serializable sc (play sc (opening sc) (take n choices))
 

@@ -189,8 +189,8 @@ pub fn serializable()
 
 /// Every run is strictly serializable, under both rules, in the migration order: of each migration first all that
 /// committed at its source, then all that committed at its destination, each in commit order. Database and registers are
-/// those of the committed programs, run one by one in this order. Each of these lone runs ends by its commit, and each
-/// committed transaction was on its lone run at each point at which it was active (view equivalence, by values). A
+/// those of the committed transactions, run one by one in this order. Each of these lone runs ends by its commit, and
+/// each committed transaction was on its lone run at each point at which it was active (view equivalence, by values). A
 /// transaction that aborts was on its lone run, too, from the rows that a prefix of the order produces (opacity's
 /// condition on each transaction; no order of all transactions is given). A transaction that commits before another begins
 /// precedes it, and those that have committed never change their order.
@@ -227,8 +227,8 @@ pub fn node_order()
         → let s = play sc (opening sc) choices in at_node n s (migration_order sc choices) ≡ commits_at n s }
 {}
 
-/// In version 1, under both rules, database and registers are those of the committed programs, run one by one: first all
-/// that committed at A and then all that committed at B, each in commit order. The state alone gives this order.
+/// In version 1, under both rules, database and registers are those of the committed transactions, run one by one: first
+/// all that committed at A and then all that committed at B, each in commit order. The state alone gives this order.
 pub fn a_first()
     ensures { (sc : Scenario) → IsScenario sc → sc.version ≡ One → (choices : List AChoice)
         → let s = play sc (opening sc) choices in SerialIn (commits_at A s ++ commits_at B s) sc s }

@@ -16,6 +16,6 @@ same_entry x y = (x.0 == y.0) && (x.1 == y.1)
 abbrev pub same_map : Map → Map → Bool
 same_map m n = pointwise same_entry (entries m) (entries n)
 
--- whether the pages have exactly what the committed programs leave when they are run alone, one by one
+-- whether the pages have exactly what the committed transactions leave when they are run alone, one by one
 abbrev pub is_serial : Scenario → State → Bool
 is_serial sc s = same_map (database s) (serial sc (map_of sc.rows) s.commits)

@@ -16,8 +16,8 @@ use zy_isa::Rule;
 use zy_machine::{Fault, Machine};
 use zy_table::CommitRecord;
 
-/// The commits of a run in an order in which the committed programs, run one by one, leave its rows; none if and only if
-/// the order of the commits does. It reports that it is out of memory.
+/// The commits of a run in an order in which the committed transactions, run one by one, leave its rows; none if and only
+/// if the order of the commits does. It reports that it is out of memory.
 pub fn explaining_order(
     alloc: Global,
     machine: &Machine,

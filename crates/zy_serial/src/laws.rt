@@ -14,7 +14,7 @@ pub fn same_is_equal()
     ensures { (m n : Map) → same_map m n ≡ true ↔ m ≡ n }
 {}
 
-/// Under the rule `held` the pages have, after every schedule, exactly what the committed programs leave when they are
+/// Under the rule `held` the pages have, after every schedule, exactly what the committed transactions leave when they are
 /// run alone, one by one: what `same` answers is true.
 pub fn always_same()
     ensures { (sc : Scenario) → IsScenario sc → sc.rule ≡ Held → (choices : List AChoice)

@@ -1,4 +1,4 @@
-//! The committed programs, run alone, one by one: whether a run has left the same rows, and in which order they do.
+//! The committed transactions, run alone, one by one: whether a run has left the same rows, and in which order they do.
 #![tactic(auto)]
 
 mod acting;

@@ -16,9 +16,9 @@ use zy_machine::{Fault, Machine};
 use zy_table::CommitRecord;
 
 /// The commits of a machine's history in the migration order: of each migration first those at its source, then those
-/// at its destination, each in the order in which they were made. The committed programs, run one by one in this order,
-/// leave the machine's database. The history is made again for it, so this takes as long as the run did. It reports
-/// that it is out of memory.
+/// at its destination, each in the order in which they were made. The committed transactions, run one by one in this
+/// order, leave the machine's database. The history is made again for it, so this takes as long as the run did. It
+/// reports that it is out of memory.
 pub fn migration_order(alloc: Global, machine: &Machine) -> Result<Vec<CommitRecord>, Fault>
     ensures order { IfOk result (λ order. order.items
         ≡ laws.migration_order machine.now.scenario (choices_of machine.now.entries)) }

@@ -1,4 +1,4 @@
-//! The committed programs, run alone and one by one, and whether the pages have what they leave.
+//! The committed transactions, run alone and one by one, and whether the pages have what they leave.
 ghost use Rattle.std.specs.Prelude.{◌≡◌, ◌<◌, All, IfOk, OnOk, length};
 ghost use Rattle.zy_isa.specs.Rows.{Rising};
 ghost use Rattle.zy_table.specs.Database.{database};
@@ -15,7 +15,7 @@ use zy_isa::{Program, Scenario};
 use zy_machine::Machine;
 use zy_table::CommitRecord;
 
-/// The rows that committed programs leave when they are run alone, one by one, from the opening rows.
+/// The rows that committed transactions leave when they are run alone, one by one, from the opening rows.
 pub fn serial(
     alloc: Global,
     scenario: &Scenario,
@@ -60,7 +60,7 @@ fn all_rows(alloc: Global, machine: &Machine) -> Result<Table, AllocError>
     Ok(table)
 }
 
-/// Whether the pages have exactly what the committed programs leave when they are run alone, one by one.
+/// Whether the pages have exactly what the committed transactions leave when they are run alone, one by one.
 pub fn same(alloc: Global, machine: &Machine) -> Result<bool, AllocError>
     ensures { IfOk result (λ b. b ≡ same_map (database machine.now.state)
         (table_serial.serial machine.now.scenario (map_of machine.now.scenario.rows) machine.now.state.commits)) }

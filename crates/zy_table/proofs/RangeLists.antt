@@ -51,13 +51,13 @@ pub within_range : (a b k : ℕ) → has (range a b) k ≡ true → (a ≤ k) ×
 within_range a b k h = let r = within_keys (b + 1 - a) a k h in let x = r.0 in let y = r.1 in (x, omega (arith, x, y))
 
 -- a key that is put among others
-has-put_new : (k : ℕ) (xs : List ℕ) → has (put_key k xs) k ≡ true
+pub has-put_new : (k : ℕ) (xs : List ℕ) → has (put_key k xs) k ≡ true
 has-put_new k [] = has_first k []
 has-put_new k (x ∷ xs) = cond_both (nat_le k x) (k ∷ x ∷ xs) (x ∷ put_key k xs) (λ y. has y k ≡ true) (λ _. has_first k (x ∷ xs))
     (λ _. has_rest x k (put_key k xs) (has-put_new k xs))
 
 -- keys with one put among them have each key that they had
-has-put_old : (k : ℕ) (xs : List ℕ) (q : ℕ) → has xs q ≡ true → has (put_key k xs) q ≡ true
+pub has-put_old : (k : ℕ) (xs : List ℕ) (q : ℕ) → has xs q ≡ true → has (put_key k xs) q ≡ true
 has-put_old k [] q h = absurd (false≢true h)
 has-put_old k (x ∷ xs) q h =
     cond_both (nat_le k x) (k ∷ x ∷ xs) (x ∷ put_key k xs) (λ y. has y q ≡ true)

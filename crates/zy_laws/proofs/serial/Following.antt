@@ -1,4 +1,4 @@
--- Each transaction that runs has come as far as its lone run on the database, which is that of the committed programs.
+-- Each transaction that runs has come as far as its lone run on the database, which is that of the committed transactions.
 use Rattle.std.proofs.Common.{List, [], ap, false, inl, inr, subst, sym, true, ℕ, ◌++◌, ◌∙◌, ◌∷◌, ◌≡◌}
 use Rattle.std.specs.Prelude.{slice_set}
 use Rattle.std.proofs.lemmas.Bool.{cases_eq, false≢true}

@@ -1,4 +1,4 @@
--- After every schedule the database is that of the committed programs, run one by one.
+-- After every schedule the database is that of the committed transactions, run one by one.
 use Rattle.zy_isa.specs.declared.rule.Rule.TheVariants.{Held}
 use Rattle.zy_table.specs.Take.{is_held}
 use Rattle.std.proofs.Common.{List, ap, append-nil, refl, subst, sym, true, ℕ, ◌∙◌, ◌≡◌, ◌≤◌}
@@ -50,7 +50,7 @@ step_holds sc start two held c s x h =
           (subst (λ cs. Divided sc n w start (lows_then sc c s h.lows) (in_order cs)) (sym (commits_back n w)) next);
     }
 
--- the law: the database is that of the committed programs, run one by one
+-- the law: the database is that of the committed transactions, run one by one
 pub serializable : (sc : Scenario) → IsScenario sc → sc.rule ≡ Held → (cs : List Choice) → Serializable sc (play sc (opening sc) cs)
 unfolding database opening txn_at
 serializable sc l held cs =

@@ -1,4 +1,4 @@
--- After every schedule the database is that of the committed programs, run one by one, within each migration those at its source first.
+-- After every schedule the database is that of the committed transactions, run one by one, within each migration those at its source first.
 use Rattle.std.proofs.Common.{List, [], ap, refl, subst, sym, ℕ, ◌++◌, ◌∙◌, ◌∷◌, ◌≡◌, ◌≤◌}
 use Rattle.std.specs.Prelude.{slice_get, drop, length}
 use Rattle.zy_isa.specs.Scenario.{IsScenario, Scenario}
@@ -64,7 +64,7 @@ reached_holds sc l cs =
     sorted-keeps sc Tidy (Holds sc (database (opening sc))) (step_tidy sc) (step_holds sc (database (opening sc)) l.cap_least) cs (opening sc) none
     (opening_tidy sc l) (opening_holds sc (laid_out sc l))
 
--- the law: the database is that of the committed programs, run one by one in the migration order
+-- the law: the database is that of the committed transactions, run one by one in the migration order
 pub serial_source_first : (sc : Scenario) → IsScenario sc → (cs : List Choice) → SerialIn (migration_order sc cs) sc (play sc (opening sc) cs)
 unfolding database txn_at
 serial_source_first sc l cs =

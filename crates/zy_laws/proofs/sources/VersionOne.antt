@@ -1,4 +1,4 @@
--- In version 1 the database is that of the committed programs, run one by one: those at A, and then those at B.
+-- In version 1 the database is that of the committed transactions, run one by one: those at A, and then those at B.
 use Rattle.std.proofs.Common.{List, ap, append-nil, false, refl, subst, sym, ℕ, ◌++◌, ◌∙◌, ◌≡◌, ◌≤◌}
 use Rattle.zy_isa.specs.Scenario.{IsScenario, Scenario}
 use Rattle.zy_isa.specs.declared.choice.Choice.{Choice}
