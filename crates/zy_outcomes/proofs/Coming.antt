@@ -1,6 +1,6 @@
 -- Each page that a node asked for is on its way to it.
 use Rattle.std.proofs.Common.{◌≡◌, ℕ, ◌+◌, ◌≤◌, ◌<◌, List, [], ◌∷◌, ◌++◌, length, true, false, refl, sym, ap, ◌∙◌, subst, inl, inr, arith}
-use Rattle.std.specs.Prelude.{◌⊎◌, ◌==◌, if◌then◌else◌, nat_le}
+use Rattle.std.specs.Prelude.{◌⊎◌, ◌==◌, if◌then◌else◌}
 use Rattle.std.proofs.lemmas.Bool.{cases_eq, cond_both, eq-eqb, eqb-true, false≢true, or_cases, or_left, or_right}
 use Rattle.std.proofs.lemmas.Bool.Decides.{nat_tests}
 use Rattle.zy_isa.specs.Scenario.{IsScenario, Scenario}
@@ -13,6 +13,7 @@ use Rattle.zy_model.specs.Messages.{Wire, Ready, Dual, Pull, Page, Finish, Done}
 use Rattle.zy_model.specs.Table.{may_pull}
 use Rattle.zy_model.specs.Wireframe.{page_of}
 use Rattle.zy_table.proofs.PageLists.{owns-lowered, owns-with_page}
+use Rattle.zy_table.proofs.RangeLists.{has-put_new, has-put_old}
 use Rattle.zy_table.proofs.RangeWalk.{has-put}
 use Rattle.zy_table.proofs.RisingNumbers.{has-dropped}
 use Rattle.zy_table.specs.Change.{aborted, asks, begun, committed, cut, did, leaves, locked, shares, txn_at, with_arrived}
@@ -40,7 +41,6 @@ use Rattle.zy_laws.proofs.walk.Kinds.{in_place_of}
 use Rattle.zy_laws.proofs.walk.ModeLines.{pulls_taker, sends_source, splits_in_normal}
 use Rattle.zy_laws.proofs.walk.PlayPush.{play-keeps-with}
 use Rattle.zy_laws.proofs.way_out.NoDeadEnd.{not_counted}
-use Rattle.zy_outcomes.proofs.Runs.{has_put_new}
 use Rattle.zy_outcomes.proofs.Steps.{Stale, step_told}
 use Rattle.zy_outcomes.specs.Coming.{OnItsWay, pull_in, pulls}
 
@@ -97,14 +97,6 @@ no_page_back p (Is In_dual at) s = no_page_pulls p _ at.back
 no_page_back p (Is Finish_sent at) s = no_page_pulls p _ at.back
 no_page_back p (Is In_finish at) s = no_page_pulls p _ at.back
 no_page_back p (Is g at) s = cc at.destination
-
--- a number stays where another is put
-has_put_old : (k q : ℕ) (xs : List ℕ) → has xs q ≡ true → has (put_key k xs) q ≡ true
-has_put_old k q [] h = absurd (false≢true h)
-has_put_old k q (x ∷ xs) h =
-    cond_both (nat_le k x) (k ∷ x ∷ xs) (x ∷ put_key k xs) (λ ys. has ys q ≡ true)
-    (λ _. or_right _ _ h)
-    (λ _. elim (or_cases (x == q) (has xs q) h) [ inl e ↦ or_left _ _ e | inr e ↦ or_right _ _ (has_put_old k q xs e) ])
 
 -- a number stays where another is dropped
 pub has_kept : (k q : ℕ) (xs : List ℕ) → (k ≡ q → ⊥) → has xs q ≡ true → has (drop_number k xs) q ≡ true
@@ -214,9 +206,9 @@ module _ {x : NodeState} {out inn : List Message} (a : Way x out inn) where
           | inr far ↦ let l = a.once q in grind (arith, nat_tests, k, l, far)
         ];
         pulled = λ q h. elim (cases_eq p q) [
-          | inl same ↦ inl (subst (λ z. has (put_key p x.asked) z ≡ true) same (has_put_new p x.asked))
+          | inl same ↦ inl (subst (λ z. has (put_key p x.asked) z ≡ true) same (has-put_new p x.asked))
           | inr far ↦ let k = post q in elim (a.pulled q (grind (arith, nat_tests, k, h, far))) [
-            | inl asked ↦ inl (has_put_old p q x.asked asked)
+            | inl asked ↦ inl (has-put_old p x.asked q asked)
             | inr own ↦ inr own
           ]
         ];

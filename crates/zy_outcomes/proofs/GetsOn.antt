@@ -22,6 +22,7 @@ use Rattle.zy_table.specs.declared.outcome.Outcome.TheVariants as outcome
 use Rattle.zy_table.specs.declared.outcome.Why.{Why}
 use Rattle.zy_table.specs.declared.outcome.Why.TheVariants as why
 use Rattle.zy_laws.specs.WayOut.{enough}
+use Rattle.zy_laws.proofs.serial.Values.{back_to}
 use Rattle.zy_laws.proofs.sources.RealTime.{play-append}
 use Rattle.zy_laws.proofs.walk.ModeLines.{pulls_in, splits_in_normal}
 use Rattle.zy_laws.proofs.walk.Txns.{at_other, at_self, at_side}
@@ -31,7 +32,6 @@ use Rattle.zy_outcomes.proofs.Coming.{on_its_way}
 use Rattle.zy_outcomes.proofs.Limits.{page_limit}
 use Rattle.zy_outcomes.proofs.Runs.{Brings, Cuts, Fares, Goes, Stays, Waits, run_tells, waits_in}
 use Rattle.zy_outcomes.proofs.RunsAlone.{a_run_gets_on_or_waits, waits_for_none}
-use Rattle.zy_outcomes.proofs.Steps.{face}
 use Rattle.zy_outcomes.proofs.Taken.{Taken, all_taken, links_from, may_wait, none_waits, takes_txns}
 use Rattle.zy_outcomes.specs.Accounts.{counted, is_of_run, txn_of}
 use Rattle.zy_outcomes.specs.Coming.{IsAwaited, OnItsWay, pulls}
@@ -183,7 +183,7 @@ run_comes sc ok t s x =
     let k = known sc ok s x.from in
     let of_run = of_reached sc (λ z. is_active (txn_of z t).status ≡ true → is_of_run (step sc (Run (txn_of z t).node t) z).outcome ≡ true)
     (λ cs. a_run_gets_on_or_waits sc ok cs t) s x.from x.active in
-    subst (Comes sc t v) (sym (face n m.after))
+    subst (Comes sc t v) (sym (back_to n m.after))
     (comes sc n t v m.after m.outcome tells.reason tells.fares tells.awaited tells.brings of_run
     (λ p e. waits_for_none sc s t p n k.holders x.alone e))
 

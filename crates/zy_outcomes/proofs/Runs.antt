@@ -21,11 +21,10 @@ use Rattle.zy_model.specs.declared.mode.NodeMode.{NodeMode}
 use Rattle.zy_model.specs.declared.mode.NodeMode.TheVariants.{DInit}
 use Rattle.zy_table.proofs.AbortedLocks.{aborted-locked}
 use Rattle.zy_table.proofs.PageLists.{owns-lowered, owns-with_page}
-use Rattle.zy_table.proofs.RangeLists.{found_has, none_passes}
+use Rattle.zy_table.proofs.RangeLists.{found_has, has-put_new, none_passes}
 use Rattle.zy_table.specs.Change.{aborted, asks, committed, cut, did, locked, quiet, shares, txn_at, txn_or}
 use Rattle.zy_table.specs.Client.{is_active}
 use Rattle.zy_table.specs.Effects.{effect_of}
-use Rattle.zy_table.specs.Keys.{put_key}
 use Rattle.zy_table.specs.Numbers.{has, least, least_with}
 use Rattle.zy_table.specs.Pages.{owns}
 use Rattle.zy_table.specs.Ranges.{range_pages}
@@ -127,12 +126,6 @@ least_with-has x p (y ∷ ys) e =
 least-has : (xs : List ℕ) (p : ℕ) → least xs ≡ Some p → has xs p ≡ true
 least-has [] p e = cc
 least-has (x ∷ xs) p e = least_with-has x p xs (let k : least_with x xs ≡ p = cc in k)
-
--- a number that is put in its place is there
-pub has_put_new : (k : ℕ) (xs : List ℕ) → has (put_key k xs) k ≡ true
-has_put_new k [] = or_left _ _ (eq-eqb k k refl)
-has_put_new k (x ∷ xs) =
-    cond_both (nat_le k x) (k ∷ x ∷ xs) (x ∷ put_key k xs) (λ ys. has ys k ≡ true) (λ _. or_left _ _ (eq-eqb k k refl)) (λ _. or_right _ _ (has_put_new k xs))
 
 -- a page of private rows that is not here has one of them
 gone_row : (x : NodeState) (rows all : List Row) → ((k : ℕ) → is_some (get_row rows k) ≡ true → is_some (get_row all k) ≡ true) → (p : ℕ)
@@ -288,7 +281,7 @@ module _ (sc : Scenario) (n : Node) (t : ℕ) where
         sent = (Pull p, refl, refl);
         number = tt;
         inbox = refl;
-        awaited = has_put_new p v.me.asked;
+        awaited = has-put_new p v.me.asked;
         brings = record { txns = refl; mode = refl; lows = refl; pages = refl };
         lists = refl;
         runs = λ _ _. refl;

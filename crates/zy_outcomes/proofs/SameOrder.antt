@@ -1,13 +1,14 @@
 -- The begins, and the commits at each node, give the migration order.
 use Rattle.std.proofs.Common.{◌≡◌, ℕ, ◌+◌, ◌<◌, ◌≤◌, List, [], ◌∷◌, ◌++◌, length, true, false, refl, sym, ap, ◌∙◌, subst, inl, inr, arith, append_assoc, append-nil, zero, suc}
 use Rattle.std.specs.Prelude.{◌⊎◌, Bool, if◌then◌else◌, ◌==◌, take}
-use Rattle.std.proofs.lemmas.Bool.{cases_Bool, cond_both, eq-eqb, eqb-true, false≢true, false_from_ne_true, or_cases, or_left, or_right}
+use Rattle.std.proofs.lemmas.Bool.{cases_Bool, cond_both, eq-eqb, eqb-true, false≢true, false_from_ne_true, or_cases, or_left}
 use Rattle.std.proofs.lemmas.List.Elements.{filter-append}
 use Rattle.zy_isa.specs.Scenario.{IsScenario, Scenario}
 use Rattle.zy_isa.specs.declared.choice.Choice.{Choice}
 use Rattle.zy_isa.specs.declared.choice.Choice.TheVariants.{Run}
 use Rattle.zy_isa.specs.declared.node.Node.{Node}
 use Rattle.zy_isa.specs.declared.node.Node.TheVariants.{A, B}
+use Rattle.zy_table.proofs.RangeLists.{has_back, has_either, has_first}
 use Rattle.zy_table.specs.Change.{committed, txn_at}
 use Rattle.zy_table.specs.Client.{is_new}
 use Rattle.zy_table.specs.Numbers.{has}
@@ -25,7 +26,7 @@ use Rattle.zy_laws.proofs.serial.Listed.{listed}
 use Rattle.zy_laws.proofs.sources.BeginOrder.{begins_in_order}
 use Rattle.zy_laws.proofs.sources.ByNode.{AllCommitted, all_after, at_of, at_same_txns, stays}
 use Rattle.zy_laws.proofs.sources.Histories.{was_new}
-use Rattle.zy_laws.proofs.sources.NodeOrder.{node_order}
+use Rattle.zy_laws.proofs.sources.NodeOrder.{each_node, node_order}
 use Rattle.zy_laws.proofs.sources.Places.{listed_both, listed_permuted, place_back}
 use Rattle.zy_laws.proofs.sources.SourceFirst.{serial_source_first}
 use Rattle.zy_laws.proofs.walk.Events.{Event, step_happens}
@@ -47,13 +48,6 @@ those n at (c ∷ cs) = if same_node (at c.txn) n then c.txn ∷ those n at cs e
 abbrev Falls : (ℕ → Node) → (ℕ → ℕ) → List CommitRecord → Type 0
 Falls at rank [] = Unit {0}
 Falls at rank (c ∷ cs) = ((u : ℕ) → has (those (other (at c.txn)) at cs) u ≡ true → rank u < rank c.txn) × Falls at rank cs
-
--- a node is this one or the other
-each_node : (n i : Node) → (i ≡ n) ⊎ (i ≡ other n)
-each_node A A = inl refl
-each_node A B = inr refl
-each_node B A = inr refl
-each_node B B = inl refl
 
 -- the node beside the other one
 other_back : (n m : Node) → m ≡ other n → n ≡ other m
@@ -79,9 +73,9 @@ those_there n at c cs e = ap (λ b. if b then c.txn ∷ those (other n) at cs el
 heads : {x y : ℕ} {xs ys : List ℕ} → (x ∷ xs) ≡ (y ∷ ys) → (x ≡ y) × (xs ≡ ys)
 heads e = (cc, cc)
 
--- the first of a list is in it
-has_first : (x : ℕ) (xs ys : List ℕ) → ys ≡ x ∷ xs → has ys x ≡ true
-has_first x xs ys e = ap (λ zs. has zs x) e ∙ or_left _ _ (eq-eqb x x refl)
+-- what begins a list is in it
+has_head : (x : ℕ) (xs ys : List ℕ) → ys ≡ x ∷ xs → has ys x ≡ true
+has_head x xs ys e = ap (λ zs. has zs x) e ∙ has_first x xs
 
 -- such lists with the same at each node are the same
 merged : (p q : ℕ → Node) (rank : ℕ → ℕ) (xs ys : List CommitRecord) → Falls p rank xs → Falls q rank ys
@@ -109,8 +103,8 @@ merged p q rank (c ∷ xs) (d ∷ ys) f g same =
           subst (λ z. those z q ys ≡ those z q (d ∷ ys)) (sym back) (sym (those_there m q d ys refl)) ∙ sym (same n) ∙ those_here n p c xs refl in
           let yours : those m p xs ≡ d.txn ∷ those m q ys =
           subst (λ z. those z p xs ≡ those z p (c ∷ xs)) (sym apart) (sym (those_there n p c xs refl)) ∙ same m ∙ those_here m q d ys refl in
-          let a = f.0 d.txn (subst (λ z. has (those z p xs) d.txn ≡ true) apart (has_first d.txn (those m q ys) (those m p xs) yours)) in
-          let b = g.0 c.txn (subst (λ z. has (those z q ys) c.txn ≡ true) back (has_first c.txn (those n p xs) (those n q ys) mine)) in
+          let a = f.0 d.txn (subst (λ z. has (those z p xs) d.txn ≡ true) apart (has_head d.txn (those m q ys) (those m p xs) yours)) in
+          let b = g.0 c.txn (subst (λ z. has (those z q ys) c.txn ≡ true) back (has_head c.txn (those n p xs) (those n q ys) mine)) in
           absurd (omega (arith, a, b))
     ]
 
@@ -296,23 +290,14 @@ behind_less t [] h = absurd (false≢true h)
 behind_less t (x ∷ xs) h =
     cond_both (has xs t) (behind t xs) (length xs) (λ n. n < suc (length xs)) (λ more. let k = behind_less t xs more in omega (arith, k)) (λ _. omega arith)
 
--- who is in the back of a list is in it
-has_back : (t : ℕ) (xs ys : List ℕ) → has ys t ≡ true → has (xs ++ ys) t ≡ true
-has_back t [] ys h = h
-has_back t (x ∷ xs) ys h = or_right _ _ (has_back t xs ys h)
-
--- and as many stand behind it
+-- where t is in the back of a list, as many stand behind it
 behind_back : (t : ℕ) (xs ys : List ℕ) → has ys t ≡ true → behind t (xs ++ ys) ≡ behind t ys
 behind_back t [] ys h = refl
-behind_back t (x ∷ xs) ys h = ap (λ b. if b then behind t (xs ++ ys) else length (xs ++ ys)) (has_back t xs ys h) ∙ behind_back t xs ys h
+behind_back t (x ∷ xs) ys h = ap (λ b. if b then behind t (xs ++ ys) else length (xs ++ ys)) (has_back xs ys t h) ∙ behind_back t xs ys h
 
 -- who is in neither part is not in both
 has_neither : (t : ℕ) (xs ys : List ℕ) → has xs t ≡ false → has ys t ≡ false → has (xs ++ ys) t ≡ false
-has_neither t [] ys a b = b
-has_neither t (x ∷ xs) ys a b = false_from_ne_true _ (λ h. elim (or_cases (x == t) (has (xs ++ ys) t) h) [
-  | inl same ↦ false≢true (sym a ∙ or_left _ _ same)
-  | inr more ↦ false≢true (sym (has_neither t xs ys (false_from_ne_true _ (λ k. false≢true (sym a ∙ or_right _ _ k))) b) ∙ more)
-])
+has_neither t xs ys a b = false_from_ne_true _ (λ h. elim (has_either xs ys t h) [ inl x ↦ false≢true (sym a ∙ x) | inr y ↦ false≢true (sym b ∙ y) ])
 
 -- a transaction of a state is new
 abbrev fresh_in : State → ℕ → Bool
@@ -360,7 +345,7 @@ has_begun sc (c ∷ cs) s t new old =
     let x = step sc c s in
     let rest = begins_of (entries sc x.after cs) in
     elim (step_new sc c s t new) [
-      | inl still ↦ has_back t (who_begins c x.outcome) rest (has_begun sc cs x.after t still old)
+      | inl still ↦ has_back (who_begins c x.outcome) rest t (has_begun sc cs x.after t still old)
       | inr begins ↦ subst (λ ws. has (ws ++ rest) t ≡ true) (sym begins) (or_left _ _ (eq-eqb t t refl))
     ]
 

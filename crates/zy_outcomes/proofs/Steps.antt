@@ -6,7 +6,7 @@ use Rattle.zy_isa.specs.Scenario.{Scenario}
 use Rattle.zy_isa.specs.declared.choice.Choice.{Choice}
 use Rattle.zy_isa.specs.declared.choice.Choice.TheVariants.{Start, Begin, Kill, Run, Take, Finish as Finish_at, Push}
 use Rattle.zy_isa.specs.declared.node.Node.{Node}
-use Rattle.zy_isa.specs.declared.node.Node.TheVariants.{A, B}
+use Rattle.zy_isa.specs.declared.node.Node.TheVariants.{A}
 use Rattle.zy_isa.specs.declared.rule.Rule.{Rule}
 use Rattle.zy_isa.specs.declared.rule.Rule.TheVariants as rule
 use Rattle.zy_model.specs.Locks.{is_locked}
@@ -25,12 +25,14 @@ use Rattle.zy_table.specs.Pages.{leaf_at, owns}
 use Rattle.zy_table.specs.Play.{move, side_of, step}
 use Rattle.zy_table.specs.Push.{active_from, finish_if, finish_step, push_if, push_step}
 use Rattle.zy_table.specs.Run.{same_node}
-use Rattle.zy_table.specs.State.{Move, NodeState, State, Txn, View, facing, seen_from}
+use Rattle.zy_table.specs.State.{Move, NodeState, State, Txn, View, facing}
 use Rattle.zy_table.specs.Take.{arrival_step, front_step, is_held, message_step, outcome_of, pull_step, take_step, with_answer}
 use Rattle.zy_table.specs.declared.entry.CommitRecord.{CommitRecord}
 use Rattle.zy_table.specs.declared.outcome.Outcome.{Outcome}
 use Rattle.zy_table.specs.declared.outcome.Outcome.TheVariants as outcome
 use Rattle.zy_laws.proofs.owner.MovingPages.{owns-without}
+use Rattle.zy_laws.proofs.serial.Serializable.{commits_back}
+use Rattle.zy_laws.proofs.serial.Values.{back_to}
 use Rattle.zy_laws.proofs.walk.Events.{same_node-true}
 use Rattle.zy_laws.proofs.walk.Txns.{at_either, at_other, at_same, at_self, at_side, not_new}
 use Rattle.zy_outcomes.proofs.Runs.{Fares, Goes, Stays, Tells, run_tells, same_node-same, Lists}
@@ -410,11 +412,6 @@ pub step_reason : (sc : Scenario) (c : Choice) (s : State) → let n = side_of s
 unfolding step
 step_reason sc c s = (step_told sc c s).reason
 
--- a view seen from its node is that view
-pub face : (n : Node) (v : View) → facing n (seen_from n v) ≡ v
-face A v = refl
-face B v = refl
-
 -- the law: what is sent is said
 pub sent_is_said : (sc : Scenario) (c : Choice) (s : State) → let n = side_of sc c s in let x = step sc c s in
     Says x.sent (facing n s).outbox (facing n x.after).outbox
@@ -422,12 +419,7 @@ unfolding step
 sent_is_said sc c s =
     let n = side_of sc c s in
     let m = move sc c (facing n s) in
-    subst (λ (w : View). Says m.sent (facing n s).outbox w.outbox) (sym (face n m.after)) (step_told sc c s).sent
-
--- the commits are those of either side
-same_commits : (n : Node) (w : View) → (seen_from n w).commits ≡ w.commits
-same_commits A w = refl
-same_commits B w = refl
+    subst (λ (w : View). Says m.sent (facing n s).outbox w.outbox) (sym (back_to n m.after)) (step_told sc c s).sent
 
 -- a page that is said to come is asked for
 pub step_awaited : (sc : Scenario) (c : Choice) (s : State) → let n = side_of sc c s in let x = step sc c s in
@@ -436,7 +428,7 @@ unfolding step
 step_awaited sc c s =
     let n = side_of sc c s in
     let m = move sc c (facing n s) in
-    subst (λ (w : View). IsAwaited m.outcome w.me) (sym (face n m.after)) (step_told sc c s).awaited
+    subst (λ (w : View). IsAwaited m.outcome w.me) (sym (back_to n m.after)) (step_told sc c s).awaited
 
 -- the law: a commit's number is its place
 pub commit_number : (sc : Scenario) (c : Choice) (s : State) → let x = step sc c s in IsNumbered x.outcome x.after.commits
@@ -444,4 +436,4 @@ unfolding step
 commit_number sc c s =
     let n = side_of sc c s in
     let m = move sc c (facing n s) in
-    subst (λ cs. IsNumbered m.outcome cs) (sym (same_commits n m.after)) (step_told sc c s).number
+    subst (λ cs. IsNumbered m.outcome cs) (sym (commits_back n m.after)) (step_told sc c s).number

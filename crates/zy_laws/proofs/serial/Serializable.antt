@@ -26,7 +26,7 @@ use Rattle.zy_laws.proofs.walk.Events.{step_happens}
 use Rattle.zy_laws.proofs.walk.PlayPush.{play-keeps-with}
 
 -- the commit list of a view is that of its state
-commits_back : (n : Node) (w : View) → (seen_from n w).commits ≡ w.commits
+pub commits_back : (n : Node) (w : View) → (seen_from n w).commits ≡ w.commits
 commits_back A w = refl
 commits_back B w = refl
 

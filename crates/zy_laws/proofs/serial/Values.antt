@@ -106,7 +106,7 @@ from_node A s lows placed o = refl
 from_node B s lows placed o = turned_db lows (facing A s) placed o
 
 -- the view of a state is the view that made it
-back_to : (n : Node) (w : View) → facing n (seen_from n w) ≡ w
+pub back_to : (n : Node) (w : View) → facing n (seen_from n w) ≡ w
 back_to A w = refl
 back_to B w = refl
 

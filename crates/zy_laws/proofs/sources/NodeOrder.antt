@@ -71,7 +71,7 @@ own_start n a b x f cs o h = record {
 }
 
 -- a node is this one or the other
-each_node : (n i : Node) → (i ≡ n) ⊎ (i ≡ other n)
+pub each_node : (n i : Node) → (i ≡ n) ⊎ (i ≡ other n)
 each_node A A = inl refl
 each_node A B = inr refl
 each_node B A = inr refl
