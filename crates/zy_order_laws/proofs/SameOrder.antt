@@ -1,4 +1,4 @@
--- Orders of the same logs, in which no line is missing and each tells its outcome, have the same migration order.
+-- Orders of the same logs, which have no gaps and whose lines tell their outcomes, have the same migration order.
 use Rattle.std.proofs.Common.{◌≡◌, ◌∙◌, ℕ, ◌++◌, List, [], ◌∷◌, ap, append_assoc, arith, false, inl, inr, length, refl, subst, sym, true, ◌≤◌}
 use Rattle.std.specs.Prelude.{IfSome, None, Option, Some, if◌then◌else◌, is_some, sum}
 use Rattle.std.proofs.lemmas.Bool.{cases_Bool, cond_both, false≢true}
@@ -12,8 +12,7 @@ use Rattle.zy_table.specs.Play.{entries, opening, play, step}
 use Rattle.zy_table.specs.State.{State}
 use Rattle.zy_table.specs.declared.outcome.Outcome.{Outcome}
 use Rattle.zy_laws.specs.SourceFirst.{migration_order}
-use Rattle.zy_outcomes.proofs.SameOrder.{same_order}
-use Rattle.zy_outcomes.specs.SameLogs.{named_by, txns_of, who_begins, who_commits}
+use Rattle.zy_outcomes.specs.Accounts.{who_begins, who_commits}
 use Rattle.zy_logs.specs.Agrees.{Tells}
 use Rattle.zy_logs.specs.declared.log_line.LogLine.{LogLine}
 use Rattle.zy_logs.specs.declared.told.Told.{Told}
@@ -22,6 +21,8 @@ use Rattle.zy_order.specs.declared.gaps.Gaps.{Gaps}
 use Rattle.zy_order.specs.Gaps.{Completes, gap_count, gaps_of}
 use Rattle.zy_order.specs.Orders.{Fits, IsOrder, choices_of, lines_of}
 use Rattle.zy_order_laws.specs.Complete.{AllTell, AreComplete}
+use Rattle.zy_order_laws.specs.SameLogs.{named_by, txns_of}
+use Rattle.zy_order_laws.proofs.SameLogs.{same_order}
 use Rattle.zy_order_laws.proofs.Sorts.{Sort, begins_by, begins_by_client, begins_is, commits_by, commits_by_node, commits_is, sort_of, sort_told, tells_sort}
 
 -- ---- logs without gaps

@@ -11,7 +11,7 @@ use Rattle.zy_isa.specs.declared.node.Node.TheVariants.{A, B}
 use Rattle.zy_table.specs.Run.{same_node}
 use Rattle.zy_table.specs.declared.outcome.Outcome.{Outcome}
 use Rattle.zy_table.specs.declared.outcome.Outcome.TheVariants as outcome
-use Rattle.zy_outcomes.specs.SameLogs.{who_begins, who_commits}
+use Rattle.zy_outcomes.specs.Accounts.{who_begins, who_commits}
 use Rattle.zy_logs.specs.Agrees.{Tells}
 use Rattle.zy_logs.specs.declared.told.Told.{Told}
 use Rattle.zy_logs.specs.declared.told.Told.TheVariants as told

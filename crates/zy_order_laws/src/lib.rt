@@ -1,4 +1,4 @@
-//! What all orders of the same logs have in common.
+//! What the logs of a run tell of its migration order.
 #![tactic(auto)]
 
 pub mod laws;

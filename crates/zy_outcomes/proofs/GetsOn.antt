@@ -1,4 +1,4 @@
--- Why no transaction has to wait forever: each round in which it does not get on leaves less to come for it.
+-- Why there is always a way on: each round in which a transaction does not get on leaves less to come for it.
 use Rattle.std.proofs.Common.{◌≡◌, ℕ, ◌+◌, ◌-◌, ◌<◌, ◌≤◌, List, length, true, false, refl, sym, ap, ◌∙◌, subst, inl, inr, arith, zero, suc}
 use Rattle.std.specs.Prelude.{if◌then◌else◌, slice_get, slice_set}
 use Rattle.std.proofs.lemmas.Bool.{cases_Bool, cases_eq, cond_both, false≢true}
@@ -411,7 +411,7 @@ module _ (sc : Scenario) (ok : IsScenario sc) (t : ℕ) (s : State) (f : From sc
     active = ap (λ (y : Txn). is_active y.status) t_same ∙ active;
   }
 
--- the law: no transaction has to wait forever
+-- the law: there is always a way on
 pub gets_on : (sc : Scenario) → IsScenario sc → (cs : List Choice) (t : ℕ) → let s = play sc (opening sc) cs in is_active (txn_of s t).status ≡ true → GetsOn sc s t
 gets_on sc ok cs t active =
     let s = play sc (opening sc) cs in

@@ -8,4 +8,3 @@ pub mod Coming
 pub mod RunsAlone
 pub mod Taken
 pub mod GetsOn
-pub mod SameOrder

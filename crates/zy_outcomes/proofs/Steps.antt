@@ -36,10 +36,9 @@ use Rattle.zy_laws.proofs.serial.Values.{back_to}
 use Rattle.zy_laws.proofs.walk.Events.{same_node-true}
 use Rattle.zy_laws.proofs.walk.Txns.{at_either, at_other, at_same, at_self, at_side, not_new}
 use Rattle.zy_outcomes.proofs.Runs.{Fares, Goes, Stays, Tells, run_tells, same_node-same, Lists}
-use Rattle.zy_outcomes.specs.Accounts.{Accounts, IsNumbered, Says, counted, is_did, runs}
+use Rattle.zy_outcomes.specs.Accounts.{Accounts, IsNumbered, Says, counted, is_did, runs, who_begins}
 use Rattle.zy_outcomes.specs.Coming.{IsAwaited}
 use Rattle.zy_outcomes.specs.Reasons.{HasReason, RunsAt}
-use Rattle.zy_outcomes.specs.SameLogs.{who_begins}
 
 -- ---- the lowest active transaction
 

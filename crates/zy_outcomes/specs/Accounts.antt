@@ -1,13 +1,15 @@
--- What an outcome tells of the step: whether an instruction was done, which message was sent, which commit it was.
+-- What an outcome tells of the step: whether an instruction was done, who begins or commits, which message was sent, which commit it was.
 use Rattle.std.specs.Prelude.{ℕ, ◌≡◌, ◌==◌, ◌+◌, ◌++◌, ◌&&◌, List, [], ◌∷◌, Bool, true, false, Option, Some, None, if◌then◌else◌, length, slice_get}
 use Rattle.zy_isa.specs.declared.choice.Choice.{Choice}
-use Rattle.zy_isa.specs.declared.choice.Choice.TheVariants.{Run}
+use Rattle.zy_isa.specs.declared.choice.Choice.TheVariants.{Begin, Run}
+use Rattle.zy_isa.specs.declared.node.Node.{Node}
 use Rattle.zy_model.specs.declared.kind.Kind.{Kind}
 use Rattle.zy_model.specs.Messages.{Message, kind_of}
 use Rattle.zy_table.specs.declared.outcome.Outcome.{Outcome}
-use Rattle.zy_table.specs.declared.outcome.Outcome.TheVariants.{Aborted, Awaits, Committed, Did, NotYet, Pulls, Split, Waits}
+use Rattle.zy_table.specs.declared.outcome.Outcome.TheVariants.{Aborted, Awaits, Began, Committed, Did, NotYet, Pulls, Split, Waits}
 use Rattle.zy_table.specs.declared.entry.CommitRecord.{CommitRecord}
 use Rattle.zy_table.specs.Change.{txn_or}
+use Rattle.zy_table.specs.Run.{same_node}
 use Rattle.zy_table.specs.State.{State, Txn}
 
 -- transaction t of a state
@@ -42,6 +44,16 @@ is_of_run o = false
 abbrev pub runs : Choice → ℕ → Bool
 runs (Run n u) t = u == t
 runs c t = false
+
+-- the transaction that begins by a choice with this outcome, if one does
+abbrev pub who_begins : Choice → Outcome → List ℕ
+who_begins (Begin t) (Began n) = t ∷ []
+who_begins c o = []
+
+-- the transaction that commits at node n by it, if one does
+abbrev pub who_commits : Node → Choice → Outcome → List ℕ
+who_commits n (Run m t) (Committed i) = if same_node m n then t ∷ [] else []
+who_commits n c o = []
 
 -- what was sent, and nothing else, stands at the end of the link
 abbrev pub Says : Option Kind → List Message → List Message → Type 0

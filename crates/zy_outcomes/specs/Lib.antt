@@ -3,4 +3,3 @@ pub mod Beginnings
 pub mod Coming
 pub mod GetsOn
 pub mod Reasons
-pub mod SameLogs

@@ -10,16 +10,14 @@ ghost use Rattle.zy_table.specs.declared.effect.Effect.TheVariants.{Commits};
 ghost use Rattle.zy_table.specs.declared.outcome.Outcome.TheVariants as outcome;
 ghost use Rattle.zy_table.specs.Client.{is_active, is_new};
 ghost use Rattle.zy_table.specs.Pages.{owns};
-ghost use Rattle.zy_table.specs.Play.{entries, play, opening, step, side_of};
+ghost use Rattle.zy_table.specs.Play.{play, opening, step, side_of};
 ghost use Rattle.zy_table.specs.State.{State, facing};
 ghost use Rattle.zy_laws.specs.Journey.{is_gone};
-ghost use Rattle.zy_laws.specs.SourceFirst.{migration_order};
 ghost use Rattle.zy_outcomes.specs.Accounts.{Accounts, IsNumbered, Says, is_of_run, txn_of};
 ghost use Rattle.zy_outcomes.specs.Beginnings.{Begins, MayStart};
 ghost use Rattle.zy_outcomes.specs.Coming.{IsAwaited, OnItsWay};
 ghost use Rattle.zy_outcomes.specs.GetsOn.{GetsOn};
 ghost use Rattle.zy_outcomes.specs.Reasons.{HasReason, IsAlone, Next};
-ghost use Rattle.zy_outcomes.specs.SameLogs.{SameLogs, txns_of};
 
 /// A `begin` of a new transaction always acts: there is always a node for it, which is not idle and hands over no page.
 pub fn a_begin_acts()
@@ -122,12 +120,4 @@ pub fn alone_waits_for_no_lock()
 pub fn gets_on()
     ensures { (sc : Scenario) → IsScenario sc → (choices : List AChoice) (t : ℕ)
         → let s = play sc (opening sc) choices in is_active (txn_of s t).status ≡ true → GetsOn sc s t }
-{}
-
-/// The order of the begins and that of the commits at each node give the migration order: two runs that have both in
-/// common have the same transactions in it, in the same order, however their steps were interleaved.
-pub fn logs_give_the_order()
-    ensures { (sc : Scenario) → IsScenario sc → (one other : List AChoice)
-        → SameLogs (entries sc (opening sc) one) (entries sc (opening sc) other)
-        → txns_of (migration_order sc one) ≡ txns_of (migration_order sc other) }
 {}

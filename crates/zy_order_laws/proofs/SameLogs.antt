@@ -33,9 +33,9 @@ use Rattle.zy_laws.proofs.walk.Events.{Event, step_happens}
 use Rattle.zy_laws.proofs.walk.Txns.{at_back, at_self, at_side, blank_at, committed_old, not_both_nodes}
 use Rattle.zy_outcomes.proofs.Runs.{same_node-same}
 use Rattle.zy_outcomes.proofs.Steps.{ListsBy, step_told}
-use Rattle.zy_outcomes.specs.Accounts.{txn_of}
+use Rattle.zy_outcomes.specs.Accounts.{txn_of, who_begins, who_commits}
 use Rattle.zy_outcomes.specs.Reasons.{RunsAt}
-use Rattle.zy_outcomes.specs.SameLogs.{SameLogs, begins_of, commits_of, txns_of, who_begins, who_commits}
+use Rattle.zy_order_laws.specs.SameLogs.{SameLogs, begins_of, commits_of, txns_of}
 
 -- ---- lists that are sorted at each node, and across the nodes
 

@@ -1,23 +1,11 @@
 -- Who begins, and who commits at a node, as the logs of a run tell it.
-use Rattle.std.specs.Prelude.{ℕ, ◌≡◌, ◌++◌, List, [], ◌∷◌, if◌then◌else◌, map}
+use Rattle.std.specs.Prelude.{ℕ, ◌≡◌, ◌++◌, List, [], ◌∷◌, map}
 use Rattle.zy_isa.specs.declared.choice.Choice.{Choice}
-use Rattle.zy_isa.specs.declared.choice.Choice.TheVariants.{Begin, Run}
 use Rattle.zy_isa.specs.declared.node.Node.{Node}
 use Rattle.zy_table.specs.declared.entry.CommitRecord.{CommitRecord}
 use Rattle.zy_table.specs.declared.entry.Entry.{Entry}
 use Rattle.zy_table.specs.declared.outcome.Outcome.{Outcome}
-use Rattle.zy_table.specs.declared.outcome.Outcome.TheVariants.{Began, Committed}
-use Rattle.zy_table.specs.Run.{same_node}
-
--- the transaction that begins by a choice with this outcome, if one does
-abbrev pub who_begins : Choice → Outcome → List ℕ
-who_begins (Begin t) (Began n) = t ∷ []
-who_begins c o = []
-
--- the transaction that commits at node n by it, if one does
-abbrev pub who_commits : Node → Choice → Outcome → List ℕ
-who_commits n (Run m t) (Committed i) = if same_node m n then t ∷ [] else []
-who_commits n c o = []
+use Rattle.zy_outcomes.specs.Accounts.{who_begins, who_commits}
 
 -- whom each of these entries names, in their order
 abbrev pub named_by : (Choice → Outcome → List ℕ) → List Entry → List ℕ

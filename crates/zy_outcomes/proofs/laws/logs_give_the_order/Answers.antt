@@ -1,5 +1,0 @@
-use Rattle.zy_outcomes.proofs.SameOrder.{same_order}
-use Rattle.zy_outcomes.proofs.laws.logs_give_the_order.Goals as goal
-
-pub returns : goal.returns
-returns c sc ok one other same = same_order sc ok one other same
