@@ -34,7 +34,7 @@ def write(path, text, mode=0o644):
 def needed():
     """The crates that count for zy_bench: all but those that are there for the tests, and the other program."""
     crates = {line.split()[0].rstrip(':') for line in lines_of(os.path.join(TOP, 'crates.txt'))}
-    return crates - {'zy_tests', 'zy_refusals', 'zy_first'}
+    return crates - {'zy_tests', 'zy_alloc_failures', 'zy_first'}
 
 
 def bare(folder, *without):

@@ -40,7 +40,7 @@ KINDS = {
     'fact': Kind('crates/zy_goals/src/goal.rt', ['Fact', 'StateFact', 'AbortReason'], r'%s|\w+ [0-9PT] %s', 5),
     'column': Kind(None, ['low', 'rows', 'locks', 'pc', 'done', 'regs', 'private'], ALONE, 3),
     'command': Kind('crates/zy_diagnostics/src/command.rt', ['CommandName'], r'(?s:.*)zy_bench %s(?![.\w])(?s:.*)', 6),
-    'flag': Kind('crates/zy_bench/src/command_line/arguments.rt', ['Argument'], r'(?s:.*)(?<![\w-])(--|-l )%s(?![\w-])(?s:.*)', 99),
+    'flag': Kind('crates/zy_cli/src/arguments.rt', ['Argument'], r'(?s:.*)(?<![\w-])(--|-l )%s(?![\w-])(?s:.*)', 99),
     'definition': Kind(None, [], None, 0),
 }
 
@@ -86,7 +86,7 @@ def group_of(path):
         return None
     if first == 'crates':
         crate, *inner = rest
-        return 'tests' if crate in ('zy_tests', 'zy_refusals') else FOLDERS.get(inner[0]) if inner else None
+        return 'tests' if crate in ('zy_tests', 'zy_alloc_failures') else FOLDERS.get(inner[0]) if inner else None
     return FOLDERS.get(first, 'scripts')
 
 

@@ -1,20 +1,14 @@
 //! The commands `search` and `find`: a goal is read, and answered.
 ghost use Rattle.std.specs.Prelude.{◌<◌};
 
-use crate::again::extent_of;
-use crate::command_line::request::Quest;
-use crate::exit_status::{COMMAND_LINE, DONE, NOWHERE, SPENT};
-use crate::explained::{explain, found_again};
-use crate::marked::Marked;
 use crate::output::{Output, pass};
-use crate::progress::Progress;
-use crate::summary::{Count, Summary};
-use crate::way_out::tell_way_out;
 use std::alloc::Global;
 use std::fmt;
 use std::io::{Read, Write};
 use std::thread::Threads;
 use std::time::Clock;
+use zy_cli::exit_status::{COMMAND_LINE, DONE, NOWHERE, SPENT};
+use zy_cli::request::SearchRequest;
 use zy_engine::finding::find_input;
 use zy_engine::searching::search_input;
 use zy_engine::{BenchFault, Format, Question, SearchOptions};
@@ -25,13 +19,23 @@ use zy_goals::{GoalFault, Names};
 use zy_io::CountingReader;
 use zy_io::reading::read_all;
 use zy_isa::Choice;
-use zy_ordering::names::names_of;
+use zy_order_engine::names::names_of;
+use zy_report::again::extent_of;
+use zy_report::explained::{explain, found_again};
+use zy_report::marked::Marked;
+use zy_report::progress::Progress;
+use zy_report::summary::{Count, Summary};
+use zy_report::way_out::tell_way_out;
 use zy_search::{SearchAnswer, SearchReport, Sought};
 
 /// What a search is to look for, in a scenario whose transactions have these names.
-fn sought_of(alloc: Global, quest: Quest<'_>, names: Names<'_>) -> Result<Sought, GoalFault> {
-    let text = quest.text.as_bytes();
-    let read = if quest.is_always {
+fn sought_of(
+    alloc: Global,
+    request: SearchRequest<'_>,
+    names: Names<'_>,
+) -> Result<Sought, GoalFault> {
+    let text = request.text.as_bytes();
+    let read = if request.is_always {
         read_always(alloc, text, names)
     } else {
         read_goal(alloc, text, names)
@@ -40,16 +44,20 @@ fn sought_of(alloc: Global, quest: Quest<'_>, names: Names<'_>) -> Result<Sought
     Ok(Sought {
         goal: query.goal,
         then: query.then,
-        kinds: quest.kinds,
+        kinds: request.kinds,
     })
 }
 
 /// Reports on standard error why a goal was not read, and gives the exit status.
-fn no_goal(rt: &impl Eprint, quest: Quest<'_>, fault: GoalFault) -> Result<u8, BenchFault> {
+fn no_goal(
+    rt: &impl Eprint,
+    request: SearchRequest<'_>,
+    fault: GoalFault,
+) -> Result<u8, BenchFault> {
     match fault {
         GoalFault::Memory => Err(BenchFault::Memory),
         GoalFault::Refused(refusal) => {
-            let marked = Marked::of(quest, refusal);
+            let marked = Marked::of(request.text, request.is_always, refusal);
             let _ = eprintln!(rt; "zy_bench: {marked}");
             Ok(COMMAND_LINE)
         }
@@ -70,44 +78,44 @@ pub enum Asked {
 pub fn answer<R: Eprint + AllocGlobal + Clock + Threads + Sync, G: Read, W: Write>(
     rt: &R,
     asked: Asked,
-    quest: Quest<'_>,
+    request: SearchRequest<'_>,
     given: &mut G,
     input: &mut Vec<u8>,
     output: &mut Output<W>,
 ) -> Result<u8, BenchFault>
     requires { output.old.sink.1 < u64.MAX }
 {
-    if let Some(fault) = sought_of(rt.alloc(), quest, Names::Unknown).err() {
-        return no_goal(rt, quest, fault);
+    if let Some(fault) = sought_of(rt.alloc(), request, Names::Unknown).err() {
+        return no_goal(rt, request, fault);
     }
     *input = read_all(rt.alloc(), &mut CountingReader::new(given))?;
-    answer_read(rt, asked, quest, input.as_slice(), output)
+    answer_read(rt, asked, request, input.as_slice(), output)
 }
 
 /// Answers what is asked of a scenario that was read, and gives the exit status.
 fn answer_read<R: Eprint + AllocGlobal + Clock + Threads + Sync, W: Write>(
     rt: &R,
     asked: Asked,
-    quest: Quest<'_>,
+    request: SearchRequest<'_>,
     scenario: &[u8],
     output: &mut Output<W>,
 ) -> Result<u8, BenchFault>
     requires { output.old.sink.1 < u64.MAX }
 {
-    match sought_in(rt.alloc(), quest, scenario)? {
+    match sought_in(rt.alloc(), request, scenario)? {
         Ok(sought) => {
-            let sought = warned(rt, quest.options.format, scenario, sought)?;
+            let sought = warned(rt, request.options.format, scenario, sought)?;
             match asked {
                 Asked::Schedule { is_terminal } => {
-                    search(rt, quest, sought, scenario, output, is_terminal)
+                    search(rt, request, sought, scenario, output, is_terminal)
                 }
-                Asked::Positions => find(rt, quest.options.format, sought, scenario, output),
+                Asked::Positions => find(rt, request.options.format, sought, scenario, output),
             }
         }
         Err(fault) => {
             // A scenario that is rejected has no names.
-            extent_of(rt.alloc(), quest.options.format, scenario)?;
-            no_goal(rt, quest, fault)
+            extent_of(rt.alloc(), request.options.format, scenario)?;
+            no_goal(rt, request, fault)
         }
     }
 }
@@ -115,11 +123,11 @@ fn answer_read<R: Eprint + AllocGlobal + Clock + Threads + Sync, W: Write>(
 /// What is looked for in a scenario, or why its goal is not read.
 fn sought_in(
     alloc: Global,
-    quest: Quest<'_>,
+    request: SearchRequest<'_>,
     scenario: &[u8],
 ) -> Result<Result<Sought, GoalFault>, BenchFault> {
-    let names = names_in(alloc, quest.options.format, scenario)?;
-    let sought = sought_of(alloc, quest, Names::Known(&names));
+    let names = names_in(alloc, request.options.format, scenario)?;
+    let sought = sought_of(alloc, request, Names::Known(&names));
     drop(names);
     Ok(sought)
 }
@@ -151,7 +159,7 @@ fn lacking(
 /// Searches the schedules of a scenario, if it has the steps that are to be taken, and gives the exit status.
 fn search<R: Eprint + AllocGlobal + Clock + Threads + Sync, W: Write>(
     rt: &R,
-    quest: Quest<'_>,
+    request: SearchRequest<'_>,
     sought: Sought,
     scenario: &[u8],
     output: &mut Output<W>,
@@ -159,8 +167,8 @@ fn search<R: Eprint + AllocGlobal + Clock + Threads + Sync, W: Write>(
 ) -> Result<u8, BenchFault>
     requires { output.old.sink.1 < u64.MAX }
 {
-    let outcome = match lacking(rt.alloc(), quest.options, scenario) {
-        Ok(None) => return search_all(rt, quest, sought, scenario, output, is_terminal),
+    let outcome = match lacking(rt.alloc(), request.options, scenario) {
+        Ok(None) => return search_all(rt, request, sought, scenario, output, is_terminal),
         Ok(Some(count)) => Ok(tell_lacking(rt, count)),
         Err(fault) => Err(fault),
     };
@@ -178,7 +186,7 @@ fn tell_lacking(rt: &impl Eprint, count: Count) -> u8 {
 /// error is a terminal.
 fn search_all<R: Eprint + AllocGlobal + Clock + Threads + Sync, W: Write>(
     rt: &R,
-    quest: Quest<'_>,
+    request: SearchRequest<'_>,
     sought: Sought,
     scenario: &[u8],
     output: &mut Output<W>,
@@ -190,13 +198,13 @@ fn search_all<R: Eprint + AllocGlobal + Clock + Threads + Sync, W: Write>(
     let is_of_waits = takes_steps(&sought.goal);
     let question = Question {
         input: scenario,
-        options: quest.options,
+        options: request.options,
         sought,
     };
     let searched = search_input(rt, rt.alloc(), question, output, &mut progress);
     progress.clear();
     let report = searched?;
-    let told = tell_answer(rt, quest, is_of_waits, scenario, &report, output);
+    let told = tell_answer(rt, request, is_of_waits, scenario, &report, output);
     drop(report);
     told
 }
@@ -205,7 +213,7 @@ fn search_all<R: Eprint + AllocGlobal + Clock + Threads + Sync, W: Write>(
 /// its goal has `stuck` or `deadlock`.
 fn tell_answer<R: Eprint + AllocGlobal, W: Write>(
     rt: &R,
-    quest: Quest<'_>,
+    request: SearchRequest<'_>,
     is_of_waits: bool,
     scenario: &[u8],
     report: &SearchReport,
@@ -214,10 +222,10 @@ fn tell_answer<R: Eprint + AllocGlobal, W: Write>(
     requires { output.old.sink.1 < u64.MAX }
 {
     pass(output)?;
-    sum_up(rt, report, quest);
+    sum_up(rt, report, request);
     Ok(match &report.answer {
         SearchAnswer::Found(path) => {
-            comment_found(rt, quest.options, is_of_waits, scenario, path);
+            comment_found(rt, request.options, is_of_waits, scenario, path);
             DONE
         }
         SearchAnswer::Nowhere => NOWHERE,
@@ -315,7 +323,7 @@ impl fmt::Display for Has {
 }
 
 /// Reports on standard error what came of a search.
-fn sum_up(rt: &impl Eprint, report: &SearchReport, quest: Quest<'_>) {
-    let summary = Summary::of(report, quest);
+fn sum_up(rt: &impl Eprint, report: &SearchReport, request: SearchRequest<'_>) {
+    let summary = Summary::of(report, request.kinds, request.is_always);
     let _ = eprintln!(rt; "zy_bench: {summary}");
 }

@@ -1,9 +1,9 @@
 //! The command `end`: a scenario is written with choices behind its own that end its migration.
 ghost use Rattle.std.specs.Prelude.{◌<◌};
 
-use crate::exit_status::{DONE, SPENT};
 use crate::output::{Output, pass};
 use std::io::{Read, Write};
+use zy_cli::exit_status::{DONE, SPENT};
 use zy_engine::ending::end_bytes;
 use zy_engine::{BenchFault, Ending, Format, Wording};
 use zy_io::CountingReader;

@@ -1,7 +1,6 @@
 //! The furthest order of logs, which is kept in a file.
 ghost use Rattle.std.specs.Prelude.{◌<◌};
 
-use crate::origin::Origin;
 use crate::output::{Output, output_to, pass};
 use std::alloc::Global;
 use std::fs;
@@ -10,7 +9,8 @@ use std::rt::Files;
 use zy_engine::{BenchFault, Wording};
 use zy_isa::Choice;
 use zy_order::OrderAnswer;
-use zy_ordering::behind::write_behind;
+use zy_order_engine::behind::write_behind;
+use zy_report::origin::Origin;
 
 /// A file, and how a scenario is written to it.
 #[derive(Clone, Copy)]

@@ -1,52 +1,28 @@
 //! `zy_bench`: runs transaction programs on a migrating store under any schedule.
 #![tactic(auto)]
 
-ghost use Rattle.std.specs.Prelude.{◌<◌, OnOk};
+ghost use Rattle.std.specs.Prelude.{◌<◌};
 
-mod advised;
-mod again;
 mod answering;
-mod command_line;
-mod commands;
+mod checking;
+mod debugging;
 mod ending;
-mod excerpt;
-mod exit_status;
-mod explained;
-mod furthest;
 mod given;
-mod hint;
 mod keeping;
-mod listing;
-mod marked;
-mod nothing;
 mod ordering;
-mod origin;
 mod output;
-mod progress;
-mod refused_line;
-mod refused_object;
-mod summary;
-mod tally;
-mod way_out;
+mod running;
 
-use advised::{Advised, InputRead};
-use again::{line_due, scenario_part};
 use answering::{Asked, answer};
+use checking::check;
 use clap::ArgMatches;
 use clap::error::ErrorKind;
-use command_line::command;
-use command_line::request::{Checkpoints, Conversion, Request, Shown, Task, request_of};
-use commands::Commands;
+use debugging::debug;
 use ending::end;
-use excerpt::Differing;
-use exit_status::{COMMAND_LINE, DONE, NOT_TABLE};
-use explained::{explain, explain_again};
-use given::{Failure, Given};
-use hint::Hint;
-use nothing::Nothing;
+use given::Given;
 use ordering::{Asker, order};
-use origin::Origin;
-use output::{Output, output_to, pass, pass_rest};
+use output::{Output, output_to, pass_rest};
+use running::convert;
 use std::alloc::Global;
 use std::io::{IsTerminal, Read, Write};
 use std::process::ExitCode;
@@ -55,198 +31,14 @@ use std::sync::Wait;
 use std::thread::Threads;
 use std::time::Clock;
 use std::{fs, io};
-use zy_check::Verdict;
-use zy_diagnostics::line::whole_line;
-use zy_engine::checking::check_bytes;
-use zy_engine::debugging::{MAX_EVERY, MAX_RING, debug_bytes};
-use zy_engine::engine::{convert_bytes, run_bytes};
-use zy_engine::threading::threads_bytes;
-use zy_engine::{BenchFault, Format, RunFormat, SourceFormat};
-use zy_io::{CountingReader, Source};
-use zy_machine::Machine;
-use zy_text::cut::cut_len;
-use zy_threads::FreeGate;
-
-/// How a listing ends whose rows are not those of the commit order.
-const DIFFERING_END: &'static [u8] = b"serial differs\nend\n";
-
-/// Ends a command that has written: passes on what is kept back, and gives the exit status.
-fn close<W: Write>(output: &mut Output<W>) -> Result<u8, BenchFault>
-    requires { output.old.sink.1 < u64.MAX }
-{
-    pass(output)?;
-    Ok(DONE)
-}
-
-/// Ends a command that has made a run, and says what there is to say of it.
-fn close_run<R: Eprint + AllocGlobal, W: Write>(
-    rt: &R,
-    machine: &Machine,
-    output: &mut Output<W>,
-) -> Result<u8, BenchFault>
-    requires { output.old.sink.1 < u64.MAX }
-{
-    pass(output)?;
-    comment(rt, machine);
-    Ok(DONE)
-}
-
-/// Runs an engine over what is given, whose bytes it leaves in `input`, and gives the exit status.
-fn convert<R: Eprint + AllocGlobal + Threads + Wait + Sync, G: Read, W: Write>(
-    rt: &R,
-    conversion: Conversion,
-    given: &mut G,
-    input: &mut Vec<u8>,
-    output: &mut Output<W>,
-) -> Result<u8, BenchFault>
-    requires { output.old.sink.1 < u64.MAX }
-{
-    let source = &mut CountingReader::new(given);
-    match conversion {
-        Conversion::Run(shown, format) => run(rt, shown, format, source, input, output),
-        Conversion::Asm => {
-            let image = SourceFormat::Image;
-            convert_bytes(rt.alloc(), Format::Text, image, source, output, input)?;
-            close(output)
-        }
-        Conversion::Dis => {
-            let text = SourceFormat::Text;
-            convert_bytes(rt.alloc(), Format::Image, text, source, output, input)?;
-            close(output)
-        }
-    }
-}
-
-/// Makes a run, shows it, and gives the exit status.
-fn run<R: Eprint + AllocGlobal + Threads + Wait + Sync, S: Source, W: Write>(
-    rt: &R,
-    shown: Shown,
-    format: Format,
-    source: &mut S,
-    input: &mut Vec<u8>,
-    output: &mut Output<W>,
-) -> Result<u8, BenchFault>
-    requires source { S.failures source.old < u64.MAX }
-    requires output { output.old.sink.1 < u64.MAX }
-{
-    let machine = shown_run(rt, shown, format, source, input, output)?;
-    let status = close_run(rt, &machine, output);
-    machine.discard();
-    status
-}
-
-/// Makes a run, shows it, and gives the machine that has made it.
-fn shown_run<R: AllocGlobal + Threads + Wait + Sync, S: Source, W: Write>(
-    rt: &R,
-    shown: Shown,
-    format: Format,
-    source: &mut S,
-    input: &mut Vec<u8>,
-    output: &mut Output<W>,
-) -> Result<Machine, BenchFault>
-    requires source { S.failures source.old < u64.MAX }
-    requires output { output.old.sink.1 < u64.MAX }
-    ensures { OnOk result (output.new.sink.1 < u64.MAX) }
-{
-    let alloc = rt.alloc();
-    match shown {
-        Shown::Alone(shown) => run_bytes(alloc, format, shown, source, output, input),
-        Shown::ByThreads => threads_bytes(rt, alloc, format, source, output, input, &FreeGate),
-    }
-}
-
-/// Says on standard error where nothing came of a run or of a transaction, and which order explains the rows of a run
-/// where that of the commits does not.
-fn comment<R: Eprint + AllocGlobal>(rt: &R, machine: &Machine) {
-    if let Some(nothing) = Nothing::of(machine) {
-        let _ = eprintln!(rt; "zy_bench: {nothing}");
-    }
-    explain(rt, machine);
-}
-
-/// Checks the listing that is given, shows the line where it first differs, and gives the exit status.
-fn check<R: Eprint + AllocGlobal, G: Read, W: Write>(
-    rt: &R,
-    file: Option<&str>,
-    given: &mut G,
-    input: &mut Vec<u8>,
-    output: &mut Output<W>,
-) -> Result<u8, BenchFault>
-    requires { output.old.sink.1 < u64.MAX }
-{
-    let mut source = CountingReader::new(given);
-    let verdict = check_bytes(rt.alloc(), &mut source, output, input)?;
-    let listing = input.as_slice();
-    match verdict {
-        Verdict::Table => {
-            pass(output)?;
-            if listing.ends_with(DIFFERING_END) {
-                explain_again(rt, Format::Text, scenario_part(listing));
-            }
-            Ok(DONE)
-        }
-        Verdict::NotTable(line) => {
-            let due = line_due(rt.alloc(), listing, line)?;
-            let status = close_differing(rt, file, listing, line, due.line(), output);
-            drop(due);
-            status
-        }
-    }
-}
-
-/// Ends a check of an input that is not the listing, shows the line at which it is not, and gives the exit status.
-fn close_differing<R: Eprint, W: Write>(
-    rt: &R,
-    file: Option<&str>,
-    input: &[u8],
-    line: usize,
-    due: &[u8],
-    output: &mut Output<W>,
-) -> Result<u8, BenchFault>
-    requires { output.old.sink.1 < u64.MAX }
-{
-    pass(output)?;
-    show(rt, file, input, line, due);
-    Ok(NOT_TABLE)
-}
-
-/// Answers the commands that are given below a scenario, and gives the exit status.
-fn debug<R: Eprint + AllocGlobal, F: Read + Drop, S: Read, W: Write>(
-    rt: &R,
-    checkpoints: Checkpoints,
-    file: Option<&str>,
-    given: &mut Given<F, S>,
-    input: &mut Vec<u8>,
-    output: &mut Output<W>,
-) -> Result<u8, BenchFault>
-    requires { output.old.sink.1 < u64.MAX }
-{
-    let Checkpoints { every, ring } = checkpoints;
-    if !(1..=MAX_EVERY).contains(&every) || !(1..=MAX_RING).contains(&ring) {
-        return Ok(COMMAND_LINE);
-    }
-    let mut source = CountingReader::new(&mut *given);
-    debug_bytes(rt.alloc(), every, ring, &mut source, output, input)?;
-    pass(output)?;
-    let session = Commands {
-        file,
-        lines: given.lines(),
-    };
-    session.tell_bad(rt, input.as_slice());
-    Ok(DONE)
-}
-
-/// Shows on standard error the line of an input at which it is not the listing.
-fn show(rt: &impl Eprint, file: Option<&str>, input: &[u8], line: usize, due: &[u8]) {
-    let differing = Differing {
-        number: line,
-        is: whole_line(input, line),
-        due,
-        is_scenario: cut_len(input) == input.len(),
-    };
-    let origin = Origin::at(file, differing.position());
-    let _ = eprintln!(rt; "{origin}: {differing}");
-}
+use zy_cli::command::command;
+use zy_cli::exit_status::{COMMAND_LINE, DONE};
+use zy_cli::request::request_of;
+use zy_cli::{Hint, Request, Task};
+use zy_engine::BenchFault;
+use zy_report::advised::{Advised, InputRead};
+use zy_report::failure::Failure;
+use zy_report::origin::Origin;
 
 /// Reports a fault on standard error, and gives the exit status.
 fn tell(rt: &impl Eprint, fault: BenchFault) -> u8 {
@@ -390,15 +182,15 @@ fn perform<
         Task::Convert(conversion) => convert(rt, conversion, given, input, output),
         Task::Check => check(rt, file, given, input, output),
         Task::Debug(checkpoints) => debug(rt, checkpoints, file, given, input, output),
-        Task::Search(quest) => {
+        Task::Search(search) => {
             let asked = Asked::Schedule { is_terminal };
-            answer(rt, asked, quest, given, input, output)
+            answer(rt, asked, search, given, input, output)
         }
-        Task::Find(quest) => answer(rt, Asked::Positions, quest, given, input, output),
+        Task::Find(search) => answer(rt, Asked::Positions, search, given, input, output),
         Task::End(format, wording) => end(rt, format, wording, given, input, output),
-        Task::Order(quest) => {
+        Task::Order(logs) => {
             let asker = Asker { file, is_terminal };
-            order(rt, quest, asker, given, input, output)
+            order(rt, logs, asker, given, input, output)
         }
     }
 }

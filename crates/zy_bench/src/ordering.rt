@@ -1,25 +1,25 @@
 //! The command `order`: logs are read, and an order of them is looked for.
 ghost use Rattle.std.specs.Prelude.{◌<◌};
 
-use crate::command_line::request::LogQuest;
-use crate::exit_status::{DONE, NOWHERE, SPENT};
-use crate::furthest::{Furthest, Steps};
 use crate::keeping::Keeper;
 use crate::output::{Output, pass};
-use crate::progress::Progress;
-use crate::refused_line::RefusedLine;
-use crate::refused_object::{RefusedObject, ToldLine};
-use crate::summary::Count;
 use std::fmt;
 use std::io::{Read, Write};
 use std::rt::Files;
 use std::time::Clock;
+use zy_cli::exit_status::{DONE, NOWHERE, SPENT};
+use zy_cli::request::OrderRequest;
 use zy_engine::BenchFault;
 use zy_io::CountingReader;
 use zy_logs::LogLineFault;
 use zy_order::{OrderAnswer, OrderReport};
-use zy_ordering::ordering::order_bytes;
-use zy_ordering::{LogFormat, OrderFault};
+use zy_order_engine::ordering::order_bytes;
+use zy_order_engine::{LogFormat, OrderFault};
+use zy_report::furthest::{Furthest, Steps};
+use zy_report::progress::Progress;
+use zy_report::refused_line::RefusedLine;
+use zy_report::refused_object::{RefusedObject, ToldLine};
+use zy_report::summary::Count;
 
 /// Who asks for an order.
 #[derive(Clone, Copy)]
@@ -34,7 +34,7 @@ pub struct Asker<'a> {
 /// error is a terminal.
 pub fn order<R: Eprint + Files + AllocGlobal + Clock, G: Read, W: Write>(
     rt: &R,
-    quest: LogQuest<'_>,
+    request: OrderRequest<'_>,
     asker: Asker<'_>,
     given: &mut G,
     input: &mut Vec<u8>,
@@ -47,7 +47,7 @@ pub fn order<R: Eprint + Files + AllocGlobal + Clock, G: Read, W: Write>(
     let source = &mut CountingReader::new(given);
     let ordered = order_bytes(
         rt.alloc(),
-        quest.options,
+        request.options,
         source,
         output,
         input,
@@ -56,18 +56,18 @@ pub fn order<R: Eprint + Files + AllocGlobal + Clock, G: Read, W: Write>(
     progress.clear();
     match ordered {
         Ok(report) => {
-            let told = tell_report(rt, quest, file, input.as_slice(), &report, output);
+            let told = tell_report(rt, request, file, input.as_slice(), &report, output);
             drop(report);
             told
         }
-        Err(fault) => refuse(rt, quest.options.logs, file, input.as_slice(), fault),
+        Err(fault) => refuse(rt, request.options.logs, file, input.as_slice(), fault),
     }
 }
 
 /// Ends the output of a search for an order, reports what came of it, and gives the exit status.
 fn tell_report<R: Eprint + Files + AllocGlobal, W: Write>(
     rt: &R,
-    quest: LogQuest<'_>,
+    request: OrderRequest<'_>,
     file: Option<&str>,
     input: &[u8],
     report: &OrderReport,
@@ -76,8 +76,8 @@ fn tell_report<R: Eprint + Files + AllocGlobal, W: Write>(
     requires { output.old.sink.1 < u64.MAX }
 {
     pass(output)?;
-    let status = sum_up(rt, quest, file, input, report)?;
-    Ok(kept(rt, quest, input, &report.answer).unwrap_or(status))
+    let status = sum_up(rt, request, file, input, report)?;
+    Ok(kept(rt, request, input, &report.answer).unwrap_or(status))
 }
 
 /// Says on standard error why a line of an input is none of a log, and gives the exit status; another fault is given back.
@@ -123,13 +123,13 @@ fn tell_refused<R: Eprint + AllocGlobal>(
 /// Keeps the furthest order, if a file is named for it, and gives the exit status where that fails.
 fn kept<R: Eprint + Files + AllocGlobal>(
     rt: &R,
-    quest: LogQuest<'_>,
+    request: OrderRequest<'_>,
     input: &[u8],
     answer: &OrderAnswer,
 ) -> Option<u8> {
     let keeper = Keeper {
-        path: quest.furthest?,
-        wording: quest.options.wording,
+        path: request.furthest?,
+        wording: request.options.wording,
     };
     keeper.keep(rt, input, answer).err()
 }
@@ -137,7 +137,7 @@ fn kept<R: Eprint + Files + AllocGlobal>(
 /// Reports on standard error what came of a search for an order, and gives the exit status.
 fn sum_up<R: Eprint + AllocGlobal>(
     rt: &R,
-    quest: LogQuest<'_>,
+    request: OrderRequest<'_>,
     file: Option<&str>,
     input: &[u8],
     report: &OrderReport,
@@ -147,7 +147,7 @@ fn sum_up<R: Eprint + AllocGlobal>(
         OrderAnswer::Nowhere(order) => (order, NO_ORDER, NOWHERE),
         OrderAnswer::Spent(order) => (order, GAVE_UP, SPENT),
     };
-    let furthest = Furthest::of(rt.alloc(), quest.options, input, order, report.taken)?;
+    let furthest = Furthest::of(rt.alloc(), request.options, input, order, report.taken)?;
     tell_furthest(rt, words, report, &furthest);
     furthest.tell(rt, file, input);
     furthest.discard();

@@ -4,7 +4,7 @@ use Rattle.zy_io.specs.declared.writing.TextFault.{TextFault}
 use Rattle.zy_isa.specs.Scenario.{Scenario}
 use Rattle.zy_text.specs.Words.{lines_of}
 use Rattle.zy_text.specs.Cut.{cut}
-use Rattle.zy_console.specs.Console.{WroteReplies, opened}
+use Rattle.zy_debug_text.specs.Console.{WroteReplies, opened}
 use Rattle.zy_engine.specs.declared.faults.BenchFault.{BenchFault}
 use Rattle.zy_engine.specs.declared.format.Format.TheVariants.{Text}
 use Rattle.zy_engine.specs.OnInput.{OnInput}

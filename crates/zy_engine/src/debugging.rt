@@ -1,7 +1,7 @@
 //! The engine that debugs a scenario.
 ghost use Rattle.std.specs.Prelude.{◌<◌, ◌≤◌};
 ghost use Rattle.zy_text.specs.Words.{lines_of};
-ghost use Rattle.zy_console.specs.Console.{WroteReplies, opened};
+ghost use Rattle.zy_debug_text.specs.Console.{WroteReplies, opened};
 ghost use Rattle.zy_io.specs.Inputs.{ReadsInput, streams};
 ghost use Rattle.zy_engine.specs.Faults.{of_reading};
 ghost use Rattle.zy_engine.specs.Debugs.{Debugs, max_every, max_ring};
@@ -9,8 +9,8 @@ ghost use Rattle.zy_engine.specs.Debugs.{Debugs, max_every, max_ring};
 use crate::faults::BenchFault;
 use crate::format::{Format, accept, split_scenario};
 use std::alloc::Global;
-use zy_console::session::write_session;
 use zy_debug::Debugger;
+use zy_debug_text::session::write_session;
 use zy_io::reading::read_all;
 use zy_io::{Sink, Source, TextFault};
 use zy_isa::Scenario;

@@ -16,9 +16,9 @@ use Rattle.zy_table.specs.Client.{is_new, is_active}
 use Rattle.zy_table.specs.Serial.{is_committed}
 use Rattle.zy_table.specs.Database.{Map, database}
 use Rattle.zy_table.specs.Ranges.{range, total}
-use Rattle.zy_machine.specs.declared.part.StatePart.TheVariants.{Live}
-use Rattle.zy_machine.specs.Alike.{live_txn, part_of}
-use Rattle.zy_alike.proofs.LiveLemmas.{live_status, live_at}
+use Rattle.zy_steps.specs.declared.part.StatePart.TheVariants.{Live}
+use Rattle.zy_steps.specs.Alike.{live_txn, part_of}
+use Rattle.zy_steps.proofs.LiveLemmas.{live_status, live_at}
 use Rattle.zy_goals.specs.declared.goal.Selector.{Selector}
 use Rattle.zy_goals.specs.declared.goal.Selector.TheVariants as selector
 use Rattle.zy_goals.specs.declared.goal.TxnProperty.{TxnProperty}

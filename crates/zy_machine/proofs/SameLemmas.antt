@@ -1,14 +1,11 @@
 -- Lists that are the same at each place.
-use Rattle.std.proofs.Common.{◌≡◌, ◌∙◌, ℕ, suc, ◌+◌, ◌<◌, List, [], ◌∷◌, length, get_or, slice_get, refl, sym, ap, arith, Bool, true, false, nat_lt, map}
+use Rattle.std.proofs.Common.{◌≡◌, ◌∙◌, ℕ, suc, ◌+◌, ◌<◌, List, [], ◌∷◌, length, get_or, slice_get, refl, sym, ap, arith, Bool, true, false, nat_lt}
 use Rattle.std.proofs.lemmas.Bool.Decides.{nat_tests}
 use Rattle.std.proofs.lemmas.List.{get_or_default}
 use Rattle.zy_links.specs.declared.message.Message.{Message as Sent}
 use Rattle.zy_links.specs.Messages.{message_of, messages_of}
 use Rattle.zy_table.specs.State.{Txn}
 use Rattle.zy_table.specs.Change.{txn_or}
-use Rattle.zy_machine.specs.declared.part.StatePart.{StatePart}
-use Rattle.zy_machine.specs.declared.part.StatePart.TheVariants.{Whole, Live}
-use Rattle.zy_machine.specs.Alike.{live_txn, txn_part, txns_part}
 
 -- what holds below n and at n holds below n + 1
 pub below_more : (P : ℕ → Type 0) (n i : ℕ) (t : Bool) → nat_lt i n ≡ t → ((j : ℕ) → j < n → P j) → P n → i < n + 1 → P i
@@ -27,27 +24,11 @@ same_numbers (x ∷ xs) [] e h = absurd (omega (arith, e))
 same_numbers (x ∷ xs) (y ∷ ys) e h = both x y xs ys (h 0 (omega arith)) (same_numbers xs ys (omega (arith, e)) (λ i lt. h (suc i) (omega (arith, lt))))
 
 -- two lists of transactions of one length that agree at each place are equal
-same_txns_at : (xs ys : List Txn) → length xs ≡ length ys → ((i : ℕ) → i < length xs → txn_or (slice_get xs i) ≡ txn_or (slice_get ys i)) → xs ≡ ys
+pub same_txns_at : (xs ys : List Txn) → length xs ≡ length ys → ((i : ℕ) → i < length xs → txn_or (slice_get xs i) ≡ txn_or (slice_get ys i)) → xs ≡ ys
 same_txns_at [] [] e h = refl
 same_txns_at [] (y ∷ ys) e h = absurd (omega (arith, e))
 same_txns_at (x ∷ xs) [] e h = absurd (omega (arith, e))
 same_txns_at (x ∷ xs) (y ∷ ys) e h = both x y xs ys (h 0 (omega arith)) (same_txns_at xs ys (omega (arith, e)) (λ i lt. h (suc i) (omega (arith, lt))))
-
--- those that agree in what is live of each
-live_txns_at : (xs ys : List Txn) → length xs ≡ length ys
-    → ((i : ℕ) → i < length xs → live_txn (txn_or (slice_get xs i)) ≡ live_txn (txn_or (slice_get ys i))) → map live_txn xs ≡ map live_txn ys
-live_txns_at [] [] e h = refl
-live_txns_at [] (y ∷ ys) e h = absurd (omega (arith, e))
-live_txns_at (x ∷ xs) [] e h = absurd (omega (arith, e))
-live_txns_at (x ∷ xs) (y ∷ ys) e h =
-    both (live_txn x) (live_txn y) (map live_txn xs) (map live_txn ys) (h 0 (omega arith))
-    (live_txns_at xs ys (omega (arith, e)) (λ i lt. h (suc i) (omega (arith, lt))))
-
--- those that agree in this part
-pub alike_txns_at : (part : StatePart) (xs ys : List Txn) → length xs ≡ length ys
-    → ((i : ℕ) → i < length xs → txn_part part (txn_or (slice_get xs i)) ≡ txn_part part (txn_or (slice_get ys i))) → txns_part part xs ≡ txns_part part ys
-alike_txns_at Whole xs ys e h = same_txns_at xs ys e h
-alike_txns_at Live xs ys e h = live_txns_at xs ys e h
 
 -- the messages at i are the same to everyone
 abbrev pub SameAt : List Sent → List Sent → ℕ → Type 0

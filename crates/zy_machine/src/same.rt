@@ -1,13 +1,11 @@
-//! Whether two states are alike. Where it answers yes they are.
+//! Whether two states are the same. Where it answers yes they are.
 ghost use Rattle.std.specs.Prelude.{◌≡◌, true};
 ghost use Rattle.zy_links.specs.Messages.{message_of, messages_of};
 ghost use Rattle.zy_node.specs.Nodes.{node_shown};
 ghost use Rattle.zy_node.specs.Wireframes.{lows_in};
-ghost use Rattle.zy_machine.specs.Alike.{live_txn, txn_part, txns_part, Alike};
 ghost use Rattle.zy_machine.specs.NodePairs.{state_of};
 
 use crate::node_pair::NodePair;
-use crate::part::StatePart;
 use zy_isa::Node;
 use zy_links::{Link, Message};
 use zy_model::{Lock, NodeMode};
@@ -18,11 +16,11 @@ use zy_txns::{Book, Txn, same_rows};
 use zy_wire::Wire;
 
 impl NodePair {
-    /// Whether this part of two states is the same.
-    pub(crate) fn is_alike(&self, part: StatePart, other: &NodePair) -> bool
-        ensures { result ≡ true → Alike part (state_of self.now) (state_of other.now) }
+    /// Whether two states are the same.
+    pub(crate) fn is_same(&self, other: &NodePair) -> bool
+        ensures { result ≡ true → state_of self.now ≡ state_of other.now }
     {
-        if !alike_txns(part, &self.book, &other.book) {
+        if !same_txns(&self.book, &other.book) {
             return false;
         }
         if !same_commits(self.book.commits(), other.book.commits()) {
@@ -131,39 +129,19 @@ fn same_message(x: &Message, y: &Message) -> bool
     }
 }
 
-/// Whether this part of all transactions is the same.
-fn alike_txns(part: StatePart, x: &Book, y: &Book) -> bool
-    ensures { result ≡ true → txns_part part x.now.txns ≡ txns_part part y.now.txns }
+/// Whether all transactions are the same.
+fn same_txns(x: &Book, y: &Book) -> bool
+    ensures { result ≡ true → x.now.txns ≡ y.now.txns }
 {
     if x.len() != y.len() {
         return false;
     }
     for t in 0..x.len().min(256) {
-        if !alike_txn(part, x.txn(t as u8), y.txn(t as u8)) {
+        if !same_txn(x.txn(t as u8), y.txn(t as u8)) {
             return false;
         }
     }
     x.len() <= 256
-}
-
-/// Whether this part of two transactions is the same.
-fn alike_txn(part: StatePart, x: &Txn, y: &Txn) -> bool
-    ensures { result ≡ true → txn_part part x.now ≡ txn_part part y.now }
-{
-    match part {
-        StatePart::Whole => same_txn(x, y),
-        StatePart::Live => live_alike(x, y),
-    }
-}
-
-/// Whether what is live of two transactions is the same.
-fn live_alike(x: &Txn, y: &Txn) -> bool
-    ensures { result ≡ true → live_txn x.now ≡ live_txn y.now }
-{
-    if x.is_active() {
-        return same_txn(x, y);
-    }
-    same_status(x.status(), y.status()) && same_rows(x.rows(), y.rows())
 }
 
 /// Whether two transactions are the same.

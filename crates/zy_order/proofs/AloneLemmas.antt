@@ -21,8 +21,8 @@ use Rattle.zy_logs.specs.Agrees.{Agrees, Tells}
 use Rattle.zy_logs.specs.declared.told.Told.{Told}
 use Rattle.zy_logs.specs.declared.told.Told.TheVariants as told
 use Rattle.zy_logs.specs.declared.log_line.LogLine.{LogLine}
-use Rattle.zy_commute.specs.Commute.{Does, AreOfOthers}
-use Rattle.zy_commute.proofs.Commuting.{may_come_first, unseen}
+use Rattle.zy_steps.specs.Commute.{Does, AreOfOthers}
+use Rattle.zy_steps.proofs.Commuting.{may_come_first, unseen}
 use Rattle.zy_order.specs.declared.logs.Logs.{Logs}
 use Rattle.zy_order.specs.declared.cursors.Cursor.{Cursor}
 use Rattle.zy_order.specs.declared.cursors.Cursors.{Cursors}

@@ -6,7 +6,7 @@ ghost use Rattle.zy_order.specs.Reaches.{IsAt, IsTried, AreTried, Adds};
 use crate::attempt::attempt;
 use crate::search::{Position, Search};
 use zy_isa::Choice;
-use zy_machine::{Fault, StatePart};
+use zy_machine::Fault;
 
 impl Search {
     /// Makes a choice at a position, as that of a step that its actor's log lacks, if one may be missing there, and
@@ -25,7 +25,7 @@ impl Search {
             return Ok(true);
         }
         attempt(here.plan.alloc, here.machine, &mut self.twin, choice)?;
-        if self.twin.is_alike(StatePart::Whole, here.machine) {
+        if self.twin.is_same(here.machine) {
             return Ok(true);
         }
         self.note(here, choice, cursors.with_missing(actor))

@@ -9,7 +9,7 @@ use crate::plan::Plan;
 use crate::search::{Position, Search};
 use crate::walk::go_to;
 use zy_isa::Choice;
-use zy_machine::{Fault, Machine, StatePart};
+use zy_machine::{Fault, Machine};
 use zy_search::branch::Branch;
 use zy_search::digest::digest;
 
@@ -21,7 +21,7 @@ pub(crate) fn digest_of(cursors: Cursors, machine: &Machine) -> u64 {
     let place = cursors.c.code().rotate_left(40)
         ^ cursors.a.code().rotate_left(20)
         ^ cursors.b.code();
-    (digest(StatePart::Whole, machine).rotate_left(5) ^ place).wrapping_mul(0x517c_c1b7_2722_0a95)
+    (digest(machine).rotate_left(5) ^ place).wrapping_mul(0x517c_c1b7_2722_0a95)
 }
 
 impl Search {
@@ -33,11 +33,11 @@ impl Search {
             → searches.reached plan.now.start (path_at self.old.reached.visited at) ≡ self.old.twin.state) }
         ensures keeps { OnOk result (Reshelves plan.now self.old self.new) }
     {
-        if let Some(same) = self.shelf.compares(StatePart::Whole, at, &self.twin) {
+        if let Some(same) = self.shelf.compares(at, &self.twin) {
             return Ok(same);
         }
         go_to(plan, &self.reached, at, &mut self.shelf.spare)?;
-        Ok(self.shelf.spare.is_alike(StatePart::Whole, &self.twin))
+        Ok(self.shelf.spare.is_same(&self.twin))
     }
 
     /// Whether the path that is put under a digest leads to the twin's state, with these cursors.

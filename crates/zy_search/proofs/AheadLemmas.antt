@@ -6,11 +6,11 @@ use Rattle.std.proofs.lemmas.List.Elements.{All-push}
 use Rattle.std.specs.List.{All}
 use Rattle.zy_isa.specs.declared.choice.Choice.{Choice}
 use Rattle.zy_isa.specs.declared.choice.Choice.TheVariants.{Start}
-use Rattle.zy_machine.specs.Alike.{part_of, Alike}
-use Rattle.zy_memo.specs.declared.memory.Memory.{Memory}
-use Rattle.zy_memo.specs.Memories.{Numbers}
-use Rattle.zy_memo.proofs.ExploredLemmas.{numbers_stay}
-use Rattle.zy_parts.proofs.PartLemmas.{alike_by_numbers}
+use Rattle.zy_steps.specs.Alike.{part_of, Alike}
+use Rattle.zy_step_cache.specs.declared.memory.Memory.{Memory}
+use Rattle.zy_step_cache.specs.Memories.{Numbers}
+use Rattle.zy_step_cache.proofs.ExploredLemmas.{numbers_stay}
+use Rattle.zy_state_ids.proofs.PartLemmas.{alike_by_numbers}
 use Rattle.zy_table.specs.State.{State, Step}
 use Rattle.zy_table.specs.Play.{step}
 use Rattle.zy_search.specs.declared.ahead.Ahead.{Ahead}

@@ -20,8 +20,8 @@ use Rattle.zy_table.specs.Database.{database}
 use Rattle.zy_table.specs.Run.{run_step}
 use Rattle.zy_table.specs.Play.{move, step, play}
 use Rattle.zy_serial.specs.SameMaps.{is_serial}
-use Rattle.zy_machine.specs.declared.part.StatePart.TheVariants.{Live}
-use Rattle.zy_machine.specs.Alike.{live_txn, part_of, Alike}
+use Rattle.zy_steps.specs.declared.part.StatePart.TheVariants.{Live}
+use Rattle.zy_steps.specs.Alike.{live_txn, part_of, Alike}
 use Rattle.zy_goals.specs.declared.goal.Selector.TheVariants as selector
 use Rattle.zy_goals.specs.declared.goal.TxnProperty.TheVariants as property
 use Rattle.zy_goals.specs.declared.outcomes.OutcomePattern.{OutcomePattern}
@@ -29,7 +29,7 @@ use Rattle.zy_goals.specs.Txns.{selected_have}
 use Rattle.zy_goals.specs.Goals.{Context, meets}
 use Rattle.zy_goals.specs.Ended.{reads_ended}
 use Rattle.zy_goals.specs.Outcomes.{matches}
-use Rattle.zy_alike.proofs.LiveLemmas.{live_status, live_at}
+use Rattle.zy_steps.proofs.LiveLemmas.{live_status, live_at}
 use Rattle.zy_goals.proofs.EndedLemmas.{live_selected, live_goal}
 use Rattle.zy_search.specs.declared.kinds.ChoiceKinds.{ChoiceKinds}
 use Rattle.zy_search.specs.declared.sought.Sought.{Sought}
@@ -39,7 +39,7 @@ use Rattle.zy_search.specs.Stuck.{is_still, is_stuck}
 use Rattle.zy_search.specs.Deadlocks.{node_of, wait_in, wait_of, with_wait, waits_below, is_for, kept, left, is_deadlocked}
 use Rattle.zy_search.specs.Searches.{context_of, may_follow, shows, Shows}
 use Rattle.zy_search.specs.Visits.{counted_if, counted}
-use Rattle.zy_alike.proofs.AlikeSteps.{live_active, live_outcome, alike_play}
+use Rattle.zy_steps.proofs.AlikeSteps.{live_active, live_outcome, alike_play}
 
 -- ---- what is live of a state
 

@@ -10,13 +10,13 @@ use Rattle.zy_table.specs.declared.outcome.Outcome.TheVariants.{Started, BadMode
 use Rattle.zy_table.specs.declared.outcome.Outcome.TheVariants.{NoMessage, GotWire, GotReady, GotDual, Stale, Held, GotPull, GotPage, GotFinish, GotDone, Stray}
 use Rattle.zy_table.specs.declared.outcome.Outcome.TheVariants.{Finishing, Active, Pushed, NoPush}
 use Rattle.zy_machine.specs.Histories.{History}
-use Rattle.zy_machine.specs.Alike.{Alike}
-use Rattle.zy_frames.specs.Reads.{uncounted}
-use Rattle.zy_memo.specs.declared.memo.ChoiceMemo.{ChoiceMemo}
-use Rattle.zy_memo.specs.declared.memo.Remembered.{Remembered}
-use Rattle.zy_memo.specs.Memories.{choice_at, choices_of, numbers_by, IsTrue, Knows, Leads, Numbers}
-use Rattle.zy_memo.specs.Rests.{is_idle}
-use Rattle.zy_memo.proofs.Again.{many_after}
+use Rattle.zy_steps.specs.Alike.{Alike}
+use Rattle.zy_steps.specs.Reads.{uncounted}
+use Rattle.zy_step_cache.specs.declared.memo.ChoiceMemo.{ChoiceMemo}
+use Rattle.zy_step_cache.specs.declared.memo.Remembered.{Remembered}
+use Rattle.zy_step_cache.specs.Memories.{choice_at, choices_of, numbers_by, IsTrue, Knows, Leads, Numbers}
+use Rattle.zy_step_cache.specs.Rests.{is_idle}
+use Rattle.zy_step_cache.proofs.Again.{many_after}
 use Rattle.zy_search.specs.declared.branch.Branch.{Branch}
 use Rattle.zy_search.specs.declared.plan.Plan.{Plan}
 use Rattle.zy_search.specs.declared.reached.Reached.{Reached}

@@ -12,7 +12,7 @@ use Rattle.zy_table.specs.State.{State}
 use Rattle.zy_table.specs.Play.{play, step}
 use Rattle.zy_laws.proofs.walk.PlayPush.{play-push}
 use Rattle.zy_machine.specs.Histories.{History}
-use Rattle.zy_machine.specs.Alike.{part_of, Alike}
+use Rattle.zy_steps.specs.Alike.{part_of, Alike}
 use Rattle.zy_search.specs.declared.sought.Sought.{Sought}
 use Rattle.zy_search.specs.declared.answer.SearchAnswer.{SearchAnswer}
 use Rattle.zy_search.specs.declared.answer.SearchAnswer.TheVariants.{Spent}
@@ -20,7 +20,7 @@ use Rattle.zy_search.specs.Paths.{AreApart}
 use Rattle.zy_search.specs.Stuck.{is_still, AreMoves}
 use Rattle.zy_search.specs.Choices.{is_considered, AreConsidered, is_of_kinds, considered}
 use Rattle.zy_search.proofs.ChoiceLemmas.{all_considered}
-use Rattle.zy_alike.proofs.AlikeSteps.{alike_after}
+use Rattle.zy_steps.proofs.AlikeSteps.{alike_after}
 use Rattle.zy_search.proofs.AlikeLemmas.{alike_shows}
 use Rattle.zy_search.specs.Searches.{reached, deepest, Shows, Considers, IsPath, NoneBelow, NoneAtAll, FindsFirst, IsReached, IsDue, Fills}
 use Rattle.zy_search.specs.Visits.{path_at, length_at, counted, IsKnown, IsVisited, Visits, IsEdge, IsExpanded, AreExpanded, Grows, FindsNext, StopsAt}

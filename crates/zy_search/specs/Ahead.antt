@@ -2,8 +2,8 @@
 use Rattle.std.specs.Prelude.{ℕ, ◌≡◌, ◌<◌, List, [], false, length, slice_index_or}
 use Rattle.std.specs.List.{All}
 use Rattle.zy_isa.specs.declared.choice.Choice.{Choice}
-use Rattle.zy_memo.specs.Memories.{Numbers}
-use Rattle.zy_parts.specs.Parts.{Keeps}
+use Rattle.zy_step_cache.specs.Memories.{Numbers}
+use Rattle.zy_state_ids.specs.Parts.{Keeps}
 use Rattle.zy_table.specs.State.{State}
 use Rattle.zy_search.specs.declared.ahead.Ahead.{Ahead}
 use Rattle.zy_search.specs.declared.ahead.Successors.{Successors}

@@ -10,11 +10,11 @@ use Rattle.zy_table.specs.State.{Step}
 use Rattle.zy_table.specs.Play.{step}
 use Rattle.zy_table.specs.declared.outcome.Outcome.{Outcome}
 use Rattle.zy_machine.specs.Histories.{History}
-use Rattle.zy_machine.specs.declared.part.StatePart.{StatePart}
-use Rattle.zy_machine.specs.declared.part.StatePart.TheVariants.{Whole, Live}
-use Rattle.zy_machine.specs.Alike.{Alike}
+use Rattle.zy_steps.specs.declared.part.StatePart.{StatePart}
+use Rattle.zy_steps.specs.declared.part.StatePart.TheVariants.{Whole, Live}
+use Rattle.zy_steps.specs.Alike.{Alike}
 use Rattle.zy_goals.specs.Ended.{reads_ended}
-use Rattle.zy_memo.specs.Memories.{choices_of, Knows, Numbers}
+use Rattle.zy_step_cache.specs.Memories.{choices_of, Knows, Numbers}
 use Rattle.zy_search.specs.declared.sought.Sought.{Sought}
 use Rattle.zy_search.specs.declared.plan.Plan.{Plan}
 use Rattle.zy_search.specs.declared.branch.Branch.{Branch}

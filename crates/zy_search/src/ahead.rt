@@ -13,7 +13,7 @@ use crate::reached::Reached;
 use crate::still::is_still;
 use crate::turn_numbers::TurnNumbers;
 use std::alloc::{AllocError, Global};
-use zy_memo::Vectors;
+use zy_step_cache::Vectors;
 use zy_table::Outcome;
 
 /// What is known of where a choice leads.

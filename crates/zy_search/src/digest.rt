@@ -2,7 +2,7 @@
 
 use zy_isa::{Node, Row};
 use zy_links::Message;
-use zy_machine::{Machine, StatePart};
+use zy_machine::Machine;
 use zy_model::{Kind, Lock, LockKind, NodeMode};
 use zy_table::{CommitRecord, Place, Status, Why};
 use zy_txns::Txn;
@@ -12,14 +12,14 @@ fn mixed(digest: u64, number: u64) -> u64 {
     (digest.rotate_left(5) ^ number).wrapping_mul(0x517c_c1b7_2722_0a95)
 }
 
-/// A number that is the same for states that are alike in this part, and differs for most others. Nothing is promised of
-/// it: a bad one costs time alone.
-pub fn digest(part: StatePart, machine: &Machine) -> u64 {
+/// A number that is the same for the same states, and differs for most others. Nothing is promised of it: a bad one costs
+/// time alone.
+pub fn digest(machine: &Machine) -> u64 {
     let modes = mixed(
         mode_number(machine.mode(Node::A)),
         mode_number(machine.mode(Node::B)),
     );
-    let txns = mixed_txns(mixed_pages(modes, machine), part, machine);
+    let txns = mixed_txns(mixed_pages(modes, machine), machine);
     let commits = mixed_commits(txns, machine.commits());
     mixed_node(mixed_node(commits, machine, Node::A), machine, Node::B)
 }
@@ -36,11 +36,11 @@ fn mixed_pages(digest: u64, machine: &Machine) -> u64 {
     digest
 }
 
-/// With what counts of each transaction.
-fn mixed_txns(digest: u64, part: StatePart, machine: &Machine) -> u64 {
+/// With each transaction.
+fn mixed_txns(digest: u64, machine: &Machine) -> u64 {
     let mut digest = digest;
     for t in 0..machine.txn_count() {
-        digest = mixed_txn(digest, part, machine.txn(t as u8));
+        digest = mixed_txn(digest, machine.txn(t as u8));
     }
     digest
 }
@@ -63,13 +63,9 @@ fn mixed_rows(digest: u64, rows: &[Row]) -> u64 {
     digest
 }
 
-/// With what counts of a transaction. The private rows of one that is not active are left out where what is live counts:
-/// it has none.
-fn mixed_txn(digest: u64, part: StatePart, txn: &Txn) -> u64 {
+/// With a transaction.
+fn mixed_txn(digest: u64, txn: &Txn) -> u64 {
     let mut digest = mixed_status(digest, txn.status());
-    if matches!(part, StatePart::Live) && !txn.is_active() {
-        return digest;
-    }
     digest = mixed(digest, node_number(txn.node()));
     digest = mixed(mixed(digest, u64::from(txn.pc())), u64::from(txn.done()));
     for r in txn.regs() {

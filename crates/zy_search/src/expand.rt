@@ -2,7 +2,7 @@
 ghost use Rattle.std.specs.Prelude.{◌≡◌, ◌<◌, ◌+◌, ◌++◌, ◌∷◌, [], IfOk, OnOk, true, false, length};
 ghost use Rattle.std.specs.Bool.{Decides};
 ghost use Rattle.zy_isa.specs.declared.choice.Choice.{Choice as AChoice};
-ghost use Rattle.zy_memo.specs.Memories.{Numbers};
+ghost use Rattle.zy_step_cache.specs.Memories.{Numbers};
 ghost use Rattle.zy_search.specs.Ahead.{GoesOn, IsForeseen, HasNumbers};
 ghost use Rattle.zy_search.specs.Searches.{Shows};
 ghost use Rattle.zy_search.specs.Stuck as stuck;

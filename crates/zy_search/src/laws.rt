@@ -4,7 +4,7 @@ ghost use Rattle.zy_isa.specs.declared.choice.Choice.{Choice as AChoice};
 ghost use Rattle.zy_isa.specs.declared.rule.Rule.TheVariants.{Held};
 ghost use Rattle.zy_isa.specs.Scenario.{IsScenario, Scenario as AScenario};
 ghost use Rattle.zy_machine.specs.Histories.{History, IsReplay};
-ghost use Rattle.zy_machine.specs.Alike.{Alike};
+ghost use Rattle.zy_steps.specs.Alike.{Alike};
 ghost use Rattle.zy_laws.specs.WayOut.{Over};
 ghost use Rattle.zy_table.specs.Play.{opening, play, step};
 ghost use Rattle.zy_table.specs.State.{State};

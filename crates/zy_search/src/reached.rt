@@ -1,7 +1,7 @@
 //! The states that a search has reached.
 ghost use Rattle.std.specs.Prelude.{◌≡◌, ◌<◌, ◌∷◌, [], ◌++◌, IfOk, OnOk};
 ghost use Rattle.std.specs.Prelude.{length};
-ghost use Rattle.zy_memo.specs.Memories.{Numbers};
+ghost use Rattle.zy_step_cache.specs.Memories.{Numbers};
 ghost use Rattle.zy_search.specs.declared.plan.Plan.{Plan as APlan};
 ghost use Rattle.zy_search.specs.Visits.{path_at, state_by, IsInformed, IsWhole};
 
@@ -11,7 +11,7 @@ use crate::sought::counted;
 use crate::tree::ChoiceTree;
 use std::alloc::AllocError;
 use zy_laws::laws::safe_counts;
-use zy_memo::Explored;
+use zy_step_cache::Explored;
 
 /// A path to each state that was reached, and what is known of these states.
 #[derive(Drop)]

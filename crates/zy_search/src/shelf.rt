@@ -3,14 +3,13 @@
 ghost use Rattle.std.specs.Prelude.{◌≡◌, ◌<◌, List, [], IfOk, IfSome, OnOk, Some, true, length, slice_index_or};
 ghost use Rattle.zy_isa.specs.declared.choice.Choice.{Choice};
 ghost use Rattle.zy_machine.specs.Histories.{History};
-ghost use Rattle.zy_machine.specs.Alike.{Alike};
 ghost use Rattle.zy_search.specs.declared.shelf.Spot.{Spot as ASpot};
 ghost use Rattle.zy_search.specs.Searches.{reached};
 ghost use Rattle.zy_search.specs.Visits.{path_at, IsHere, IsShelf};
 
 use std::alloc::Global;
 use std::mem;
-use zy_machine::{Fault, Machine, StatePart};
+use zy_machine::{Fault, Machine};
 
 /// A machine, and the place of the path that leads to its state; none where that is not known.
 #[derive(Drop)]
@@ -60,13 +59,13 @@ impl Shelf {
         None
     }
 
-    /// Whether this part of the state of the machine of the path at a place is that of another one's, if it is there.
-    pub fn compares(&self, part: StatePart, at: u32, machine: &Machine) -> Option<bool>
+    /// Whether the state of the machine of the path at a place is that of another one, if it is there.
+    pub fn compares(&self, at: u32, machine: &Machine) -> Option<bool>
         ensures { (h : History) (ps : List (List Choice)) → IsShelf h ps self.now → result ≡ Some true
-            → Alike part (reached h (path_at ps at)) machine.now.state }
+            → reached h (path_at ps at) ≡ machine.now.state }
     {
         let i = self.find(at)?;
-        Some(self.spots[i].machine.is_alike(part, machine))
+        Some(self.spots[i].machine.is_same(machine))
     }
 
     /// Takes the machine where the path at a place leads, if there is one, and leaves another one there.

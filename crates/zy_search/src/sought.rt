@@ -8,7 +8,7 @@ use zy_goals::commits::takes_steps;
 use zy_goals::ended::reads_ended;
 use zy_goals::{Goal, OutcomePattern};
 use zy_isa::MAX_CHOICES;
-use zy_machine::StatePart;
+use zy_steps::StatePart;
 
 /// What is looked for, and by which choices.
 #[derive(Drop)]

@@ -3,8 +3,8 @@ use Rattle.std.proofs.Common.{List, Option, ℕ, refl, subst}
 use Rattle.std.proofs.lemmas.Result.{err_from_is_err_and}
 use Rattle.zy_text.specs.Words.{lines_of}
 use Rattle.zy_debug.specs.Sessions.{Session}
-use Rattle.zy_console.specs.Console.{SaysPrefix, WroteSession, opened}
-use Rattle.zy_console.proofs.SaidLemmas.{said_nothing, said_stops}
+use Rattle.zy_debug_text.specs.Console.{SaysPrefix, WroteSession, opened}
+use Rattle.zy_debug_text.proofs.SaidLemmas.{said_nothing, said_stops}
 use Rattle.zy_engine.proofs.debugging.write_replies.Goals as goal
 
 -- where nothing went out, nothing but a prefix did

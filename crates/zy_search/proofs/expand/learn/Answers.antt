@@ -2,7 +2,7 @@ use Rattle.std.proofs.Common.{◌≡◌, ap, length, refl, subst, sym, true}
 use Rattle.zy_isa.specs.Choices.{names_below}
 use Rattle.zy_isa.specs.declared.choice.Choice.{Choice}
 use Rattle.zy_table.specs.Play.{step}
-use Rattle.zy_frames.specs.Reads.{uncounted}
+use Rattle.zy_steps.specs.Reads.{uncounted}
 use Rattle.zy_search.specs.Searches.{reached}
 use Rattle.zy_search.specs.Visits.{path_at, states_of}
 use Rattle.zy_search.proofs.SearchLemmas.{grows_not, named_if}

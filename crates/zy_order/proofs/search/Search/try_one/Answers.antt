@@ -17,20 +17,20 @@ with_missing-requires c =
     missing_few c.args.here.plan.now c.actor-actor.result c.cursors_at-cursors.result c.requires.at.search.under_way.plan
     (c.has_gap.ensures.0 c.if-not-has_gap.false)
 
-pub returns-then-is_alike-clause-adds : goal.returns-then-is_alike-clause-adds
-returns-then-is_alike-clause-adds c =
+pub returns-then-is_same-clause-adds : goal.returns-then-is_same-clause-adds
+returns-then-is_same-clause-adds c =
     let at = c.requires.at in
     adds_twin c.args.here.plan.now c.args.self.now c.attempt.new.twin at.search (c.in_ok-attempt.ensures.scenario ∙ at.machine.scenario)
 
-pub returns-then-is_alike-clause-tried : goal.returns-then-is_alike-clause-tried
-returns-then-is_alike-clause-tried c = λ _ gap.
+pub returns-then-is_same-clause-tried : goal.returns-then-is_same-clause-tried
+returns-then-is_same-clause-tried c = λ _ gap.
     let h = c.args.here.plan.now.start in
     let here = c.args.here.machine.now in
     let r = c.args.self.now.reached in
     let i = c.args.here.at in
     let choice = c.args.choice in
     let machine = c.requires.at.machine in
-    let unchanged = c.is_alike.ensures c.if-is_alike.true in
+    let unchanged = c.is_same.ensures c.if-is_same.true in
     let made = c.in_ok-attempt.ensures.state ∙ (ap (λ (sc : Scenario). (step sc choice here.state).after) machine.scenario
     ∙ ap (λ (s : State). (step h.scenario choice s).after) machine.state) in
     (i, c.requires.at.there, need_missing (actor_of choice) (cursors_at r i), sym machine.state ∙ (sym unchanged ∙ made))

@@ -1,5 +1,5 @@
 use Rattle.std.proofs.Common.{◌∙◌, ap, sym, option_copied}
-use Rattle.zy_memo.proofs.LowestLemmas.{none_there}
+use Rattle.zy_step_cache.proofs.LowestLemmas.{none_there}
 use Rattle.zy_search.proofs.ahead.Ahead.numbers_at.Goals as goal
 
 pub returns-in-None : goal.returns-in-None

@@ -2,8 +2,8 @@ use Rattle.std.proofs.Common.{◌≡◌, ◌∙◌, ap, List, [], length, subst,
 use Rattle.zy_isa.specs.declared.choice.Choice.{Choice}
 use Rattle.zy_table.specs.State.{State}
 use Rattle.zy_machine.specs.Histories.{choices_of}
-use Rattle.zy_memo.specs.Memories.{Knows}
-use Rattle.zy_memo.specs.Memories.{choices_of as choices_in}
+use Rattle.zy_step_cache.specs.Memories.{Knows}
+use Rattle.zy_step_cache.specs.Memories.{choices_of as choices_in}
 use Rattle.zy_search.specs.Visits.{states_of}
 use Rattle.zy_search.proofs.reached.Reached.new.Goals as goal
 

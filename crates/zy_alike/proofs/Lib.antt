@@ -1,2 +1,0 @@
-pub mod LiveLemmas
-pub mod AlikeSteps

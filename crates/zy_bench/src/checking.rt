@@ -1,0 +1,77 @@
+//! The command `check`: a listing is read, and compared with that of its scenario.
+ghost use Rattle.std.specs.Prelude.{◌<◌};
+
+use crate::output::{Output, pass};
+use std::io::{Read, Write};
+use zy_check::Verdict;
+use zy_cli::exit_status::{DONE, NOT_TABLE};
+use zy_diagnostics::line::whole_line;
+use zy_engine::checking::check_bytes;
+use zy_engine::{BenchFault, Format};
+use zy_io::CountingReader;
+use zy_report::again::{line_due, scenario_part};
+use zy_report::excerpt::Differing;
+use zy_report::explained::explain_again;
+use zy_report::origin::Origin;
+use zy_text::cut::cut_len;
+
+/// How a listing ends whose rows are not those of the commit order.
+const DIFFERING_END: &'static [u8] = b"serial differs\nend\n";
+
+/// Checks the listing that is given, shows the line where it first differs, and gives the exit status.
+pub fn check<R: Eprint + AllocGlobal, G: Read, W: Write>(
+    rt: &R,
+    file: Option<&str>,
+    given: &mut G,
+    input: &mut Vec<u8>,
+    output: &mut Output<W>,
+) -> Result<u8, BenchFault>
+    requires { output.old.sink.1 < u64.MAX }
+{
+    let mut source = CountingReader::new(given);
+    let verdict = check_bytes(rt.alloc(), &mut source, output, input)?;
+    let listing = input.as_slice();
+    match verdict {
+        Verdict::Table => {
+            pass(output)?;
+            if listing.ends_with(DIFFERING_END) {
+                explain_again(rt, Format::Text, scenario_part(listing));
+            }
+            Ok(DONE)
+        }
+        Verdict::NotTable(line) => {
+            let due = line_due(rt.alloc(), listing, line)?;
+            let status = close_differing(rt, file, listing, line, due.line(), output);
+            drop(due);
+            status
+        }
+    }
+}
+
+/// Ends a check of an input that is not the listing, shows the line at which it is not, and gives the exit status.
+fn close_differing<R: Eprint, W: Write>(
+    rt: &R,
+    file: Option<&str>,
+    input: &[u8],
+    line: usize,
+    due: &[u8],
+    output: &mut Output<W>,
+) -> Result<u8, BenchFault>
+    requires { output.old.sink.1 < u64.MAX }
+{
+    pass(output)?;
+    show(rt, file, input, line, due);
+    Ok(NOT_TABLE)
+}
+
+/// Shows on standard error the line of an input at which it is not the listing.
+fn show(rt: &impl Eprint, file: Option<&str>, input: &[u8], line: usize, due: &[u8]) {
+    let differing = Differing {
+        number: line,
+        is: whole_line(input, line),
+        due,
+        is_scenario: cut_len(input) == input.len(),
+    };
+    let origin = Origin::at(file, differing.position());
+    let _ = eprintln!(rt; "{origin}: {differing}");
+}

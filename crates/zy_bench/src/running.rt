@@ -1,0 +1,111 @@
+//! The commands `run`, `trace`, `threads`, `asm` and `dis`: a scenario is read, and something of it is written.
+ghost use Rattle.std.specs.Prelude.{◌<◌, OnOk};
+
+use crate::output::{Output, pass};
+use std::io::{Read, Write};
+use std::sync::Wait;
+use std::thread::Threads;
+use zy_cli::exit_status::DONE;
+use zy_cli::request::{Conversion, Shown};
+use zy_engine::engine::{convert_bytes, run_bytes};
+use zy_engine::threading::threads_bytes;
+use zy_engine::{BenchFault, Format, SourceFormat};
+use zy_io::{CountingReader, Source};
+use zy_machine::Machine;
+use zy_report::explained::explain;
+use zy_report::nothing::Nothing;
+use zy_threads::FreeGate;
+
+/// Ends a command that has written: passes on what is kept back, and gives the exit status.
+fn close<W: Write>(output: &mut Output<W>) -> Result<u8, BenchFault>
+    requires { output.old.sink.1 < u64.MAX }
+{
+    pass(output)?;
+    Ok(DONE)
+}
+
+/// Ends a command that has made a run, and says what there is to say of it.
+fn close_run<R: Eprint + AllocGlobal, W: Write>(
+    rt: &R,
+    machine: &Machine,
+    output: &mut Output<W>,
+) -> Result<u8, BenchFault>
+    requires { output.old.sink.1 < u64.MAX }
+{
+    pass(output)?;
+    comment(rt, machine);
+    Ok(DONE)
+}
+
+/// Runs an engine over what is given, whose bytes it leaves in `input`, and gives the exit status.
+pub fn convert<R: Eprint + AllocGlobal + Threads + Wait + Sync, G: Read, W: Write>(
+    rt: &R,
+    conversion: Conversion,
+    given: &mut G,
+    input: &mut Vec<u8>,
+    output: &mut Output<W>,
+) -> Result<u8, BenchFault>
+    requires { output.old.sink.1 < u64.MAX }
+{
+    let source = &mut CountingReader::new(given);
+    match conversion {
+        Conversion::Run(shown, format) => run(rt, shown, format, source, input, output),
+        Conversion::Asm => {
+            let image = SourceFormat::Image;
+            convert_bytes(rt.alloc(), Format::Text, image, source, output, input)?;
+            close(output)
+        }
+        Conversion::Dis => {
+            let text = SourceFormat::Text;
+            convert_bytes(rt.alloc(), Format::Image, text, source, output, input)?;
+            close(output)
+        }
+    }
+}
+
+/// Makes a run, shows it, and gives the exit status.
+fn run<R: Eprint + AllocGlobal + Threads + Wait + Sync, S: Source, W: Write>(
+    rt: &R,
+    shown: Shown,
+    format: Format,
+    source: &mut S,
+    input: &mut Vec<u8>,
+    output: &mut Output<W>,
+) -> Result<u8, BenchFault>
+    requires source { S.failures source.old < u64.MAX }
+    requires output { output.old.sink.1 < u64.MAX }
+{
+    let machine = shown_run(rt, shown, format, source, input, output)?;
+    let status = close_run(rt, &machine, output);
+    machine.discard();
+    status
+}
+
+/// Makes a run, shows it, and gives the machine that has made it.
+fn shown_run<R: AllocGlobal + Threads + Wait + Sync, S: Source, W: Write>(
+    rt: &R,
+    shown: Shown,
+    format: Format,
+    source: &mut S,
+    input: &mut Vec<u8>,
+    output: &mut Output<W>,
+) -> Result<Machine, BenchFault>
+    requires source { S.failures source.old < u64.MAX }
+    requires output { output.old.sink.1 < u64.MAX }
+    ensures { OnOk result (output.new.sink.1 < u64.MAX) }
+{
+    let alloc = rt.alloc();
+    match shown {
+        Shown::Alone(shown) => run_bytes(alloc, format, shown, source, output, input),
+        Shown::ByThreads => threads_bytes(rt, alloc, format, source, output, input, &FreeGate),
+    }
+}
+
+/// Says on standard error where nothing came of a run or of a transaction, and which order explains the rows of a run
+/// where that of the commits does not.
+fn comment<R: Eprint + AllocGlobal>(rt: &R, machine: &Machine) {
+    if let Some(nothing) = Nothing::of(machine) {
+        let _ = eprintln!(rt; "zy_bench: {nothing}");
+    }
+    explain(rt, machine);
+}

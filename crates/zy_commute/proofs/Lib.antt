@@ -1,9 +1,0 @@
-pub mod SetTwo
-pub mod FewerLocks
-pub mod DidRuns
-pub mod Carried
-pub mod Numbered
-pub mod Asides
-pub mod Passes
-pub mod Unseen
-pub mod Commuting

@@ -1,6 +1,0 @@
--- The law is a lemma.
-use Rattle.zy_console.proofs.OneLemmas.{says_one}
-use Rattle.zy_console.proofs.laws.replies_are_one.Goals as goal
-
-pub returns : goal.returns
-returns c = says_one

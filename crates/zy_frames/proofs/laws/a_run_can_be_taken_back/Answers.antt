@@ -1,5 +1,0 @@
-use Rattle.zy_frames.proofs.Alone.{run_taken_back}
-use Rattle.zy_frames.proofs.laws.a_run_can_be_taken_back.Goals as goal
-
-pub returns : goal.returns
-returns c sc n t s h = run_taken_back sc n t s h

@@ -1,5 +1,0 @@
-use Rattle.zy_frames.proofs.Alone.{run_keeps}
-use Rattle.zy_frames.proofs.laws.a_run_keeps_to_itself.Goals as goal
-
-pub returns : goal.returns
-returns c sc n t s h = run_keeps sc n t s h

@@ -1,5 +1,0 @@
-use Rattle.zy_frames.proofs.Rest.{step_leaves}
-use Rattle.zy_frames.proofs.laws.a_step_leaves_the_rest.Goals as goal
-
-pub returns : goal.returns
-returns c sc choice s = step_leaves sc choice s

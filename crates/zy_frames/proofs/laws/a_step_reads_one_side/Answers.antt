@@ -1,5 +1,0 @@
-use Rattle.zy_frames.proofs.SameSteps.{step_same}
-use Rattle.zy_frames.proofs.laws.a_step_reads_one_side.Goals as goal
-
-pub returns : goal.returns
-returns c sc choice s t many e = step_same sc choice s t many e

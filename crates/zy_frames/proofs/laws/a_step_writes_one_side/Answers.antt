@@ -1,5 +1,0 @@
-use Rattle.zy_frames.proofs.SameSteps.{step_changes}
-use Rattle.zy_frames.proofs.laws.a_step_writes_one_side.Goals as goal
-
-pub returns : goal.returns
-returns c sc choice s = step_changes sc choice s

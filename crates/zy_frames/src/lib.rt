@@ -1,4 +1,0 @@
-//! What a step leaves as it was.
-#![tactic(auto)]
-
-pub mod laws;

@@ -1,9 +1,0 @@
-use Rattle.std.proofs.Common.{slice_index_or}
-use Rattle.zy_memo.specs.declared.memo.Remembered.{Remembered}
-use Rattle.zy_memo.proofs.Growth.{happened_stays}
-use Rattle.zy_memo.proofs.laws.memories_stay.Goals as goal
-
-pub returns : goal.returns
-returns c sc old new part choice steps keeps each k d h =
-    let r : Remembered = slice_index_or steps k d in
-    happened_stays old new keeps sc part choice r.scope r.read r.written r.outcome (each k d h)

@@ -1,5 +1,0 @@
-use Rattle.zy_pack.proofs.States.{same_state}
-use Rattle.zy_pack.proofs.laws.bytes_tell_states.Goals as goal
-
-pub returns : goal.returns
-returns c s t e = same_state s t e

@@ -1,3 +1,0 @@
-pub mod PartLemmas
-pub mod SlotLemmas
-pub mod TableLemmas

@@ -1,6 +1,0 @@
--- Each turn takes a line off.
-use Rattle.std.proofs.Common.{length}
-use Rattle.zy_refusals.proofs.sessions.commands_of.Given as goal
-
-abbrev pub decreases-loop-words : goal.decreases-loop-words
-decreases-loop-words l = length l.rest

@@ -1,0 +1,418 @@
+//! How far an order of logs comes, and what the table gives where the next lines do not fit.
+
+use crate::again::{make_again, scenario_part};
+use crate::excerpt::Excerpt;
+use crate::explained::go_on;
+use crate::origin::Origin;
+use crate::summary::Count;
+use std::alloc::{AllocError, Global};
+use std::fmt;
+use zy_diagnostics::line::SourceLine;
+use zy_diagnostics::text::Position;
+use zy_engine::format::split_scenario;
+use zy_engine::{BenchFault, Format};
+use zy_io::{Line, LineBuffer, MAX_INPUT};
+use zy_isa::{Actor, Choice, MAX_CHOICES};
+use zy_listing::StepLine;
+use zy_logs::{LogLine, Logged, NumberedLine};
+use zy_machine::{Fault, Machine};
+use zy_order::Taken;
+use zy_order_engine::logs_below::read_below;
+use zy_order_engine::{BelowFault, LogFormat, OrderOptions};
+use zy_table::Entry;
+
+/// A number of lines of each actor.
+#[derive(Clone, Copy)]
+pub struct Counts {
+    c: usize,
+    a: usize,
+    b: usize,
+}
+
+impl Counts {
+    /// Those that an order takes.
+    fn taken(taken: Taken) -> Counts {
+        Counts {
+            c: taken.c,
+            a: taken.a,
+            b: taken.b,
+        }
+    }
+
+    /// None.
+    fn none() -> Counts {
+        Counts { c: 0, a: 0, b: 0 }
+    }
+
+    /// How many there are of an actor.
+    fn of(self, actor: Actor) -> usize {
+        match actor {
+            Actor::C => self.c,
+            Actor::A => self.a,
+            Actor::B => self.b,
+        }
+    }
+
+    /// One more of an actor.
+    fn add(&mut self, actor: Actor) {
+        let count = match actor {
+            Actor::C => &mut self.c,
+            Actor::A => &mut self.a,
+            Actor::B => &mut self.b,
+        };
+        *count = count.saturating_add(1);
+    }
+}
+
+/// What was logged of a step, and the number of its line.
+#[derive(Clone, Copy)]
+struct NumberedStep {
+    number: usize,
+    step: LogLine,
+}
+
+/// The step that a line has, if it is one of an actor.
+fn step_by(line: &NumberedLine, actor: Actor) -> Option<NumberedStep> {
+    match line.logged {
+        Logged::Step(step) if step.choice.actor() == actor => Some(NumberedStep {
+            number: line.number,
+            step,
+        }),
+        _ => None,
+    }
+}
+
+/// How many steps of each actor lines have.
+fn counts_in(lines: &[NumberedLine]) -> Counts {
+    let mut counts = Counts::none();
+    for line in lines {
+        if let Logged::Step(step) = line.logged {
+            counts.add(step.choice.actor());
+        }
+    }
+    counts
+}
+
+/// The end of an order of prefixes of logs.
+#[derive(Drop)]
+pub struct Furthest {
+    /// The machine that has made its choices.
+    machine: Machine,
+    /// How the lines of the logs are written.
+    logs: LogFormat,
+    /// The lines of the logs.
+    lines: Vec<NumberedLine>,
+    /// How many lines of each actor it takes.
+    taken: Counts,
+}
+
+impl Furthest {
+    /// The end of the order that makes these choices and takes as many lines, of the logs of an input that is read without a
+    /// fault, where a gap counts for `options.gap` choices.
+    pub fn of(
+        alloc: Global,
+        options: OrderOptions,
+        input: &[u8],
+        order: &[Choice],
+        taken: Taken,
+    ) -> Result<Furthest, BenchFault> {
+        let mut machine = make_again(alloc, Format::Text, scenario_part(input))?;
+        match go_furthest(alloc, options, &mut machine, input, order) {
+            Ok(lines) => Ok(Furthest {
+                machine,
+                logs: options.logs,
+                lines,
+                taken: Counts::taken(taken),
+            }),
+            Err(fault) => {
+                machine.discard();
+                Err(fault)
+            }
+        }
+    }
+
+    /// Drops it.
+    pub fn discard(self) {
+        let Furthest { machine, .. } = self;
+        machine.discard();
+    }
+
+    /// How many lines of each actor it takes, of how many.
+    pub fn reach(&self) -> Reach {
+        Reach {
+            taken: self.taken,
+            all: counts_in(&self.lines),
+        }
+    }
+
+    /// The first line of an actor that it does not take.
+    fn next(&self, actor: Actor) -> Option<NumberedStep> {
+        let mut passed = 0usize;
+        for line in &self.lines {
+            if let Some(step) = step_by(line, actor) {
+                if passed == self.taken.of(actor) {
+                    return Some(step);
+                }
+                passed = passed.saturating_add(1);
+            }
+        }
+        None
+    }
+
+    /// The step that comes at its end of the choice of a line that does not fit there.
+    fn instead(&self, alloc: Global, line: LogLine) -> Result<Option<Entry>, Fault> {
+        let mut machine = self.machine.copy(alloc)?;
+        let entry = disagreeing(&mut machine, line);
+        machine.discard();
+        entry
+    }
+
+    /// The first line of the client that does not fit where those before it are made behind its end, on a machine that is there,
+    /// and the step that comes in its place.
+    fn later(&self, machine: &mut Machine) -> Result<Option<(NumberedStep, Entry)>, Fault> {
+        let mut passed = 0usize;
+        for line in &self.lines {
+            if let Some(next) = step_by(line, Actor::C) {
+                if passed < self.taken.c {
+                    passed = passed.saturating_add(1);
+                } else if let Some(entry) = disagreeing(machine, next.step)? {
+                    return Ok(Some((next, entry)));
+                }
+            }
+        }
+        Ok(None)
+    }
+
+    /// Says on standard error which next lines do not fit, and what the table gives. Where each fits, only lines of the client are
+    /// left, and the first of them that does not fit behind the others is named.
+    pub fn tell<R: Eprint + AllocGlobal>(&self, rt: &R, file: Option<&str>, input: &[u8]) {
+        let mut is_named = false;
+        for actor in [Actor::C, Actor::A, Actor::B] {
+            is_named |= self.tell_next(rt, file, input, actor);
+        }
+        if !is_named {
+            self.tell_later(rt, file, input);
+        }
+    }
+
+    /// Says what the table gives in the place of the next line of an actor, and whether there is one that does not fit.
+    fn tell_next<R: Eprint + AllocGlobal>(
+        &self,
+        rt: &R,
+        file: Option<&str>,
+        input: &[u8],
+        actor: Actor,
+    ) -> bool {
+        let Some(next) = self.next(actor) else {
+            return false;
+        };
+        match self.instead(rt.alloc(), next.step) {
+            Ok(Some(entry)) => {
+                self.tell_line(rt, file, input, next, &entry);
+                true
+            }
+            _ => false,
+        }
+    }
+
+    /// Says what the table gives in the place of the first line of the client that does not fit behind the others.
+    fn tell_later<R: Eprint + AllocGlobal>(&self, rt: &R, file: Option<&str>, input: &[u8]) {
+        if let Ok(mut machine) = self.machine.copy(rt.alloc()) {
+            let later = self.later(&mut machine);
+            machine.discard();
+            if let Ok(Some((line, entry))) = later {
+                self.tell_line(rt, file, input, line, &entry);
+            }
+        }
+    }
+
+    /// Says what the table gives in the place of a line that does not fit. Out of memory it says nothing.
+    fn tell_line<R: Eprint + AllocGlobal>(
+        &self,
+        rt: &R,
+        file: Option<&str>,
+        input: &[u8],
+        line: NumberedStep,
+        entry: &Entry,
+    ) {
+        if let Ok(step) = step_line(rt.alloc(), entry) {
+            let unfit = Unfit {
+                file,
+                number: line.number,
+                bytes: told_bytes(self.logs, input, line.number),
+                came: behind_arrow(step.as_bytes()),
+            };
+            unfit.tell(rt);
+            drop(step);
+        }
+    }
+}
+
+/// What a line of an input says: its bytes, of a text without the comment.
+fn told_bytes(logs: LogFormat, input: &[u8], number: usize) -> &[u8] {
+    let source = SourceLine::of(input, number);
+    match logs {
+        LogFormat::Text => source.statement().bytes,
+        LogFormat::Json => source.bytes,
+    }
+}
+
+/// Makes the choice of a line on a machine, if it may be made there, and returns the step where the line does not agree with it.
+fn disagreeing(machine: &mut Machine, line: LogLine) -> Result<Option<Entry>, Fault> {
+    let count = machine.scenario().programs().len();
+    if !line.choice.names_below(count) || MAX_CHOICES <= machine.len() {
+        return Ok(None);
+    }
+    let entry = machine.step(line.choice)?;
+    if line.agrees(&entry) {
+        return Ok(None);
+    }
+    Ok(Some(entry))
+}
+
+/// Makes these choices too on a machine that has made those of an input's scenario, and gives the lines of the logs below it.
+fn go_furthest(
+    alloc: Global,
+    options: OrderOptions,
+    machine: &mut Machine,
+    input: &[u8],
+    order: &[Choice],
+) -> Result<Vec<NumberedLine>, BenchFault> {
+    go_on(machine, order)?;
+    let (text, below) = split_scenario(input);
+    lines_again(alloc, options, machine, text, below)
+}
+
+/// The lines of the logs that are below a machine's scenario.
+fn lines_again(
+    alloc: Global,
+    options: OrderOptions,
+    machine: &Machine,
+    text: &[u8],
+    below: &[u8],
+) -> Result<Vec<NumberedLine>, BenchFault> {
+    if MAX_INPUT < text.len() || MAX_INPUT < below.len() {
+        return Err(BenchFault::TooLong);
+    }
+    match read_below(
+        alloc,
+        options.logs,
+        options.gap,
+        machine.scenario(),
+        text,
+        below,
+    ) {
+        Ok(lines) => Ok(lines),
+        Err(BelowFault::Memory) => Err(BenchFault::Memory),
+        Err(BelowFault::Log(_) | BelowFault::Json(_)) => Ok(Vec::new(alloc)),
+    }
+}
+
+/// A step, as a listing has it.
+fn step_line(alloc: Global, entry: &Entry) -> Result<LineBuffer, AllocError> {
+    let mut line = LineBuffer::new(alloc);
+    StepLine { number: 1, entry }.append(&mut line)?;
+    Ok(line)
+}
+
+/// What a step's line has behind its arrow.
+fn behind_arrow(line: &[u8]) -> &[u8] {
+    let arrow = line.iter().position(|byte| *byte == b'>');
+    let behind = arrow.and_then(|arrow| line.get(arrow.saturating_add(2)..));
+    behind.unwrap_or(line)
+}
+
+/// The lines that an order has, and the steps that are missing from the logs.
+#[derive(Clone, Copy)]
+pub struct Steps {
+    lines: usize,
+    missing: usize,
+}
+
+impl Steps {
+    /// Those of an order that takes `taken` lines and has `choices` choices in all.
+    pub fn of(taken: Taken, choices: usize) -> Steps {
+        let lines = taken.c.saturating_add(taken.a).saturating_add(taken.b);
+        Steps {
+            lines,
+            missing: choices.saturating_sub(lines),
+        }
+    }
+}
+
+impl fmt::Display for Steps {
+    fn fmt<W: fmt::Write>(&self, f: &mut fmt::Formatter<W>) -> fmt::Result {
+        fmt::Display::fmt(&Count::of(self.lines, "line"), f)?;
+        if self.missing == 0 {
+            return Ok(());
+        }
+        f.write_str(" and ")?;
+        fmt::Display::fmt(&Count::of(self.missing, "missing step"), f)
+    }
+}
+
+/// How many lines of each actor an order takes, of how many.
+#[derive(Clone, Copy)]
+pub struct Reach {
+    taken: Counts,
+    all: Counts,
+}
+
+impl fmt::Display for Reach {
+    fn fmt<W: fmt::Write>(&self, f: &mut fmt::Formatter<W>) -> fmt::Result {
+        let Reach { taken, all } = *self;
+        write!(
+            f,
+            "{} of {} lines of C, {} of {} of A and {} of {} of B",
+            taken.c, all.c, taken.a, all.a, taken.b, all.b
+        )
+    }
+}
+
+/// A line that does not fit, and what the table gives.
+#[derive(Clone, Copy)]
+struct Unfit<'a> {
+    file: Option<&'a str>,
+    number: usize,
+    /// The line, without its comment.
+    bytes: &'a [u8],
+    came: &'a [u8],
+}
+
+impl<'a> Unfit<'a> {
+    /// Says it on standard error.
+    fn tell(&self, rt: &impl Eprint) {
+        let _ = eprintln!(rt; "{self}");
+    }
+
+    /// Writes the line, and what the table gives there.
+    fn tell_table<W: fmt::Write>(&self, f: &mut fmt::Formatter<W>) -> fmt::Result {
+        let told = Excerpt::of(self.bytes.trim_ascii(), 0);
+        let came = Excerpt::of(self.came, 0);
+        write!(f, " {told}: the table gives {came} there")
+    }
+
+    /// Where the line is: in a file the first byte of it that is no space.
+    fn origin(&self) -> Origin<'a> {
+        let Some(file) = self.file else {
+            return Origin::Line(self.number);
+        };
+        let told = self.bytes.trim_ascii_start();
+        let before = self.bytes.len().saturating_sub(told.len());
+        Origin::Place(
+            file,
+            Position {
+                line: self.number,
+                column: before.saturating_add(1),
+            },
+        )
+    }
+}
+
+impl fmt::Display for Unfit<'_> {
+    fn fmt<W: fmt::Write>(&self, f: &mut fmt::Formatter<W>) -> fmt::Result {
+        fmt::Display::fmt(&self.origin(), f)?;
+        f.write_str(if self.file.is_some() { ":" } else { "" })?;
+        self.tell_table(f)
+    }
+}

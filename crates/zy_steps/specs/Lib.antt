@@ -1,0 +1,4 @@
+pub mod Frames
+pub mod Reads
+pub mod Alike
+pub mod Commute
