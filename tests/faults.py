@@ -611,17 +611,18 @@ SCRIPT_FAULTS = [
 ]
 
 COMMAND_LINE, WORDS = 'zy_cli/src/request.rt', 'zy_goals/src/reading/words.rt'
+OUTCOME_WORDS = 'zy_patterns/src/words.rt'
 
 NO_FLAG = 'with no flag other copies'
 
 PROGRAM_FAULTS = [
-    program(1, '--for own means badkey', WORDS, 'b"own" => AbortReason::Own', 'b"own" => AbortReason::BadKey', 'own, looked for in own', 'searches'),
+    program(1, '--for own means badkey', OUTCOME_WORDS, 'b"own" => ReasonPattern::Own', 'b"own" => ReasonPattern::BadKey', 'own, looked for in own', 'searches'),
     program(1, '--states is 20000 by itself', COMMAND_LINE, 'unwrap_or(1_000_000)', 'unwrap_or(20_000)', 'as many states as without', 'searches'),
     program(1, '--every is 65 by itself', COMMAND_LINE, 'unwrap_or(64)', 'unwrap_or(65)', NO_FLAG, 'limits copies-chosen'),
     program(1, '--image is read as a text', COMMAND_LINE,
             'if words.get_flag("image") {', 'if !words.get_flag("image") && false {', '^image-run', 'run'),
-    program(2, '--for missing means duplicate', WORDS,
-            'b"missing" => AbortReason::Missing', 'b"missing" => AbortReason::Duplicate', 'missing, looked for in missing', 'searches'),
+    program(2, '--for missing means duplicate', OUTCOME_WORDS,
+            'b"missing" => ReasonPattern::Missing', 'b"missing" => ReasonPattern::Duplicate', 'missing, looked for in missing', 'searches'),
     program(2, '--ring is 17 by itself', COMMAND_LINE, 'unwrap_or(16)', 'unwrap_or(17)', NO_FLAG, 'limits copies-chosen'),
     program(4, '--for is aborted by itself', COMMAND_LINE, 'unwrap_or("differs")', 'unwrap_or("aborted")', '^on a terminal', 'searches'),
     program(2, '--kill ignored', COMMAND_LINE, 'kill: words.get_flag("kill")', 'kill: false', '^search-found', 'run'),

@@ -25,13 +25,14 @@ FACT    = differs | stuck | deadlock | over | committed | aborted | WHY
         | key K absent
         | TERM ( = | != | < | <= | > | >= ) TERM
 TERM    = N | key K | sum K to K | reg T REG | pc T | done T | commits
-OUTCOME = aborted [ WHY ] | got KIND
-        | started | badmode | began | idle | elsewhere | notyet | did | split | committed | waits | pulls | awaits
-        | nomessage | stale | held | stray | finishing | active | pushed | nopush
+OUTCOME = began [ NODE ] | committed [ I ] | aborted [ WHY ] | active [ T ] | split [ P [ P [ K ] ] ]
+        | got ( wire | ready | dual | finish | done | pull [ P ] | page [ P ] )
+        | ( waits | pulls | awaits | stale | held | pushed ) [ P ]
+        | started | badmode | idle | elsewhere | notyet | did | nomessage | stray | finishing | nopush
 NODE    = A | B
 LINK    = AB | BA
 MODE    = normal | empty | sinit | sdual | sfinish | dinit | ddual | dfinish
-WHY     = own | killed | badkey | missing | duplicate | frozen | nopage | gone
+WHY     = own | killed | badkey | missing | duplicate | nopage | frozen [ P ] | gone [ P ]
 KIND    = wire | ready | dual | pull | page | finish | done
 REG     = r0 | r1 | r2 | r3 | r4 | r5 | r6 | r7
 """
@@ -53,7 +54,7 @@ def is_transaction(word):
     return number_below(64)(word) or NAME.fullmatch(word) is not None and word not in ('any', 'all')
 
 
-NUMBERS = {'T': is_transaction, 'K': number_below(65536), 'P': number_below(65536), 'N': number_below(10 ** 10)}
+NUMBERS = {'T': is_transaction, 'I': number_below(65), 'K': number_below(65536), 'P': number_below(65536), 'N': number_below(10 ** 10)}
 
 
 # The grammar as data: a rule is a list of alternatives, each a list of symbols, and a symbol is a word, the name of a rule, or a group.
@@ -251,10 +252,11 @@ def transactions(read):
 
 
 def numbers_named(read):
-    """The numbers of the transactions, and of the pages, that a goal names."""
+    """The numbers of the transactions, and of the pages, that a goal names before `then`."""
+    read = read[0], [part for part in read[1] if part[0] != 'OUTCOME']
     words = flat(read[1])
     return ([int(word) for word, _ in transactions(read) if word.isdigit()],
-            [int(word) for before, word in zip(words, words[1:]) if before in ('page', 'pull', 'locks') and word.isdigit()])
+            [int(word) for before, word in zip(words, words[1:]) if before in ('page', 'pull', 'locks', 'frozen', 'gone') and word.isdigit()])
 
 
 def reads_ended(read):
@@ -280,10 +282,15 @@ class Meaning:
         return int(word) if word.isdigit() else self.names[word]
 
     def goal(self, read):
-        """The test of a goal, and the outcome that it asks for, if any."""
+        """The test of a goal, and the words of the outcome that it asks for, if any."""
         parts = read[1]
         test = self.expression(parts[0]) if parts[0] != 'then' else lambda view: True
-        return test, ' '.join(flat(parts[-1:])) if 'then' in parts else None
+        return test, self.outcome(parts[-1]) if 'then' in parts else None
+
+    def outcome(self, read):
+        """The words of an outcome, with its numbers as the listing has them."""
+        named = [word for word, _ in transactions(read)]
+        return as_listed(str(self.number(word)) if word in named else word for word in flat([read]))
 
     def expression(self, read):
         name, parts = read
@@ -302,8 +309,10 @@ class Meaning:
             first, sign, second = self.term(parts[0][1]), SIGNS[parts[1]], self.term(parts[2][1])
             return lambda view: sign(first(view), second(view))
         words = flat(parts)
+        if parts[0][0] == 'WHY':
+            return lambda view: any(has_ended_for(txn, words) for txn in view.state.txns)
         if len(words) == 1:
-            return PLAIN_FACTS.get(words[0]) or (lambda view: any(has_ended_for(txn, words[0]) for txn in view.state.txns))
+            return PLAIN_FACTS[words[0]]
         return getattr(self, words[0])(*words[1:])
 
     @staticmethod
@@ -357,16 +366,26 @@ class Meaning:
         return lambda view: value(view.state.txns[number]) if number < len(view.state.txns) else 0
 
 
+def as_listed(words):
+    """Words, with each number as the listing has it."""
+    return [str(int(word)) if word.isdigit() else word for word in words]
+
+
+def is_asked(words, had):
+    """Whether an outcome or a reason begins with the words that are asked for: what they leave out may be any."""
+    return had.split()[:len(words)] == words
+
+
 def has_ended_for(txn, why):
-    return txn.status == 'aborted' and txn.why.split()[0] == why
+    return txn.status == 'aborted' and is_asked(as_listed(why), txn.why)
 
 
-def txn_test(what, more=''):
+def txn_test(what, *more):
     """The test of one transaction for what a fact says of it."""
     if what == 'at':
-        return lambda txn: txn.node == more
+        return lambda txn: txn.node == more[0]
     if what == 'wrote':
-        return lambda txn: int(more) in dict(txn.private)
+        return lambda txn: int(more[0]) in dict(txn.private)
     if more:
         return lambda txn: has_ended_for(txn, more)
     return lambda txn: txn.status == what

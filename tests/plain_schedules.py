@@ -2,8 +2,7 @@
 
 from collections import namedtuple
 
-from plain_goals import Meaning, read_goal
-from plain_search import is_asked
+from plain_goals import Meaning, is_asked, read_goal
 from plain_table import step
 
 # The choices, and the place and the number of choices in common of the one that it parts from (none of the first).

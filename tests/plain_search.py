@@ -9,7 +9,7 @@ import sys
 from collections import namedtuple
 from functools import cached_property
 
-from plain_goals import Meaning, View, kind_of, read_goal, reads_ended
+from plain_goals import Meaning, View, is_asked, read_goal, reads_ended
 from plain_table import NOBODY, opening, read, step
 
 Answer = namedtuple('Answer', 'verdict states length choices')
@@ -102,7 +102,7 @@ class Walk:
         """What comes of a search for the first state that passes a test and in which a considered choice has an outcome."""
         for at, view in enumerate(self.views):
             if test(view):
-                last = [choice for choice, had in view.outcomes if is_asked(outcome, had)][:1]
+                last = [choice for choice, had in view.outcomes if outcome and is_asked(outcome, had)][:1]
                 if outcome is None or last:
                     return Answer('found', at + 1, self.lengths[at] + len(last), self.way_to(at) + last)
         return Answer('none', len(self.views), self.lengths[-1], [])
@@ -129,11 +129,6 @@ class States:
     def walk_for(self, goal):
         """The walk of a search for what was read of a goal."""
         return self.whole if reads_ended(goal) else self.live
-
-
-def is_asked(outcome, had):
-    """Whether an outcome that a choice had is the one that a goal asks for; `aborted` alone is one for any reason."""
-    return outcome is not None and (kind_of(had) == outcome or outcome == 'aborted' and had.startswith('aborted '))
 
 
 def search(states, goal, always=False):

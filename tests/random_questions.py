@@ -95,7 +95,7 @@ class Goals:
         numbers = [str(t) for t in range(len(states.scenario.programs))]
         names = [name for name in states.scenario.names if name != 'any']
         rows = [str(key) for key, _ in states.scenario.rows]
-        self.pools = {'T': names * 4 + numbers * 2 + [str(len(numbers))], 'P': ['0', '0', '1', '1', '2', '3'],
+        self.pools = {'T': names * 4 + numbers * 2 + [str(len(numbers))], 'P': ['0', '0', '1', '1', '2', '3'], 'I': ['0', '1', '1', '2'],
                       'K': rows * 3 + [str(key) for key in KEYS] * 2 + ['65535'], 'REG': ['r0', 'r1', 'r2', 'r7'] * 2 + [word for word, in RULES['REG']],
                       'N': [str(number) for number in range(10)] * 3 + ['100', '4294967295', '9999999999']}
 

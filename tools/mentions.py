@@ -37,7 +37,7 @@ KINDS = {
     'choice': Kind('crates/zy_isa/src/choice.rt', ['Choice'], ALONE, 4),
     'outcome': Kind('crates/zy_table/src/outcome.rt', ['Outcome'], NUMBERED, 4),
     'reason': Kind('crates/zy_table/src/outcome.rt', ['Why'], NUMBERED, 3),
-    'fact': Kind('crates/zy_goals/src/goal.rt', ['Fact', 'StateFact', 'AbortReason'], r'%s|\w+ [0-9PT] %s', 5),
+    'fact': Kind('crates/zy_goals/src/goal.rt', ['Fact', 'StateFact'], r'%s|\w+ [0-9PT] %s', 5),
     'column': Kind(None, ['low', 'rows', 'locks', 'pc', 'done', 'regs', 'private'], ALONE, 3),
     'command': Kind('crates/zy_diagnostics/src/command.rt', ['CommandName'], r'(?s:.*)zy_bench %s(?![.\w])(?s:.*)', 6),
     'flag': Kind('crates/zy_cli/src/arguments.rt', ['Argument'], r'(?s:.*)(?<![\w-])(--|-l )%s(?![\w-])(?s:.*)', 99),
@@ -109,8 +109,9 @@ def own_types(kind):
 
 
 def words_of(kind):
-    """The words of a kind."""
-    return {spelled(name) for one in own_types(kind) for name in one.names} if kind.file else set(kind.types)
+    """The words of a kind. A reason of an abort is a fact, too."""
+    kinds = (kind, KINDS['reason']) if kind is KINDS['fact'] else (kind,)
+    return {spelled(name) for each in kinds for one in own_types(each) for name in one.names} if kind.file else set(kind.types)
 
 
 def types_of(kind):

@@ -2,7 +2,7 @@
 use Rattle.std.proofs.Common.{◌≡◌, ◌∙◌, inl, inr, ℕ, Bool, true, false, cond, List, [], ◌∷◌, Option, Some, None, option_map, codes, Result, Ok, Err, refl, sym, ap, subst, arith}
 use Rattle.std.specs.Prelude.{IfOk, IfErr}
 use Rattle.zy_goals.specs.declared.names.Names.{Names}
-use Rattle.zy_goals.specs.declared.outcomes.OutcomePattern.{OutcomePattern}
+use Rattle.zy_patterns.specs.declared.patterns.OutcomePattern.{OutcomePattern}
 use Rattle.zy_goals.specs.declared.refusal.GoalFault.{GoalFault}
 use Rattle.zy_goals.specs.declared.refusal.GoalFault.TheVariants.{Refused, Memory}
 use Rattle.zy_goals.specs.declared.reading.Query.{Query}
@@ -11,8 +11,9 @@ use Rattle.zy_goals.specs.declared.reading.expressions.Operator.TheVariants.{Or,
 use Rattle.zy_goals.specs.declared.reading.expressions.Prefix.{Prefix}
 use Rattle.zy_goals.specs.Words.{Word, after, are_none, begin_with}
 use Rattle.zy_goals.specs.Cursors.{left}
-use Rattle.zy_goals.specs.Vocabulary.{lone_fact, why}
-use Rattle.zy_goals.specs.Phrases.{fact_of, state_fact_of, comparison, term_of, spelled_term, outcome_of}
+use Rattle.zy_patterns.specs.Vocabulary.{lone_reason}
+use Rattle.zy_goals.specs.Vocabulary.{lone_fact}
+use Rattle.zy_goals.specs.Phrases.{fact_of, reason_or_none, state_fact_of, comparison, term_of, spelled_term, outcome_of}
 use Rattle.zy_goals.specs.Grammar.{Tree, fact, negated, bracketed, joined, Reads, Says, word_of, level_of, whole, ending, max_parts}
 use Rattle.zy_goals.specs.Grammar.{Means, MeansNever, AreOne, anything, IsNoGoal, IsNoInvariant, OnRefused}
 use Rattle.zy_goals.specs.Expressions.{Stops, Finds, Answers, Asks, AsksThen, AsksNever}
@@ -44,16 +45,16 @@ chosen true x y e = refl
 chosen false x y e = no_value None y refl e
 
 -- an expression stops at what may come after a goal
-ending_stops : (ws : List Word) (x : Option OutcomePattern) → ending ws ≡ Some x → Stops 0 ws
+ending_stops : (names : Names) (ws : List Word) (x : Option OutcomePattern) → ending names ws ≡ Some x → Stops 0 ws
 unfolding ending
-ending_stops [] x e = none_stops
-ending_stops (w ∷ ws) x e = λ o h.
-    let b = chosen (begin_with (codes "then") (w ∷ ws)) (option_map Some (whole (outcome_of ws))) x e in
+ending_stops names [] x e = none_stops
+ending_stops names (w ∷ ws) x e = λ o h.
+    let b = chosen (begin_with (codes "then") (w ∷ ws)) (option_map Some (whole (outcome_of names ws))) x e in
     ap (begin_with (word_of o)) (then_begun (w ∷ ws) b) ∙ then_is_none o ws
 
 -- no fact begins with `then`
 no_fact_then : (names : Names) (vs : List Word) → fact_of names (codes "then" ∷ vs) ≡ None
-unfolding fact_of state_fact_of comparison term_of spelled_term lone_fact why
+unfolding fact_of state_fact_of comparison term_of spelled_term lone_fact reason_or_none lone_reason
 no_fact_then names vs = refl
 
 -- no expression begins with `then`
@@ -95,15 +96,15 @@ pub goal_missed : (names : Names) (ws : List Word) (e : GoalFault) → begin_wit
 goal_missed names ws Memory b h = tt
 goal_missed names ws (Refused r) b h = record {
   nothing = λ q m. elim m [
-    | inl g ↦ let k = h g.tree g.rest g.reads (ending_stops g.rest q.then g.ends) in let p = g.parts in omega (arith, k.0)
+    | inl g ↦ let k = h g.tree g.rest g.reads (ending_stops names g.rest q.then g.ends) in let p = g.parts in omega (arith, k.0)
     | inr g ↦ both_answers (begin_with (codes "then") ws) g.begins b
   ];
-  too_long = λ g. (h g.tree g.rest g.reads (ending_stops g.rest g.asked g.ends)).1;
+  too_long = λ g. (h g.tree g.rest g.reads (ending_stops names g.rest g.asked g.ends)).1;
 }
 
 -- the expression was read
 pub goal_asked : (names : Names) (ws : List Word) (p : Prefix) (x : Result Query GoalFault) → begin_with (codes "then") ws ≡ false
-    → Finds names 0 ws max_parts p → Asks p x → AnswersGoal names ws x
+    → Finds names 0 ws max_parts p → Asks names p x → AnswersGoal names ws x
 goal_asked names ws p (Ok q) b f a = (
   inl (record {
     tree = f.tree;
@@ -114,12 +115,12 @@ goal_asked names ws p (Ok q) b f a = (
     ends = a.1;
   }),
   λ r m. elim m [
-    | inl g ↦ let k = f.only g.tree g.rest g.reads (ending_stops g.rest r.then g.ends) in
+    | inl g ↦ let k = f.only g.tree g.rest g.reads (ending_stops names g.rest r.then g.ends) in
         record {
           tree = g.tree;
           first = subst (λ y. Says g.tree y) (sym a.0) k.2;
           second = g.says;
-          asked = ap (value_or q.then) (sym a.1 ∙ sym (ap ending k.0) ∙ g.ends);
+          asked = ap (value_or q.then) (sym a.1 ∙ sym (ap (ending names) k.0) ∙ g.ends);
         }
     | inr g ↦ both_answers (begin_with (codes "then") ws) g.begins b
   ],
@@ -127,18 +128,18 @@ goal_asked names ws p (Ok q) b f a = (
 goal_asked names ws p (Err Memory) b f a = tt
 goal_asked names ws p (Err (Refused r)) b f a = record {
   nothing = λ q m. elim m [
-    | inl g ↦ let k = f.only g.tree g.rest g.reads (ending_stops g.rest q.then g.ends) in
-        no_value (ending (left p.at)) q.then a (sym (ap ending k.0) ∙ g.ends)
+    | inl g ↦ let k = f.only g.tree g.rest g.reads (ending_stops names g.rest q.then g.ends) in
+        no_value (ending names (left p.at)) q.then a (sym (ap (ending names) k.0) ∙ g.ends)
     | inr g ↦ both_answers (begin_with (codes "then") ws) g.begins b
   ];
   too_long = λ g.
-      let k = f.only g.tree g.rest g.reads (ending_stops g.rest g.asked g.ends) in
-      no_value (ending (left p.at)) g.asked a (sym (ap ending k.0) ∙ g.ends);
+      let k = f.only g.tree g.rest g.reads (ending_stops names g.rest g.asked g.ends) in
+      no_value (ending names (left p.at)) g.asked a (sym (ap (ending names) k.0) ∙ g.ends);
 }
 
 -- `then` alone
 pub goal_then : (names : Names) (ws : List Word) (x : Result Query GoalFault) → begin_with (codes "then") ws ≡ true
-    → AsksThen ws x → AnswersGoal names ws x
+    → AsksThen names ws x → AnswersGoal names ws x
 goal_then names ws (Ok q) b a = (
   inr a,
   λ r m. elim m [
@@ -155,7 +156,7 @@ goal_then names ws (Err Memory) b a = tt
 goal_then names ws (Err (Refused r)) b a = record {
   nothing = λ q m. elim m [
     | inl g ↦ no_tree_then names 0 g.tree ws g.rest b g.reads
-    | inr g ↦ no_value (ending ws) q.then a g.ends
+    | inr g ↦ no_value (ending names ws) q.then a g.ends
   ];
   too_long = λ g. no_tree_then names 0 g.tree ws g.rest b g.reads;
 }

@@ -12,8 +12,9 @@ use Rattle.zy_goals.specs.declared.reading.expressions.Operator.{Operator}
 use Rattle.zy_goals.specs.declared.reading.expressions.Operator.TheVariants.{Or, And}
 use Rattle.zy_goals.specs.Words.{Word, Read, after, begin_with}
 use Rattle.zy_goals.specs.Cursors.{left}
-use Rattle.zy_goals.specs.Vocabulary.{lone_fact, why}
-use Rattle.zy_goals.specs.Phrases.{fact_of, state_fact_of, comparison, term_of, spelled_term}
+use Rattle.zy_patterns.specs.Vocabulary.{lone_reason}
+use Rattle.zy_goals.specs.Vocabulary.{lone_fact}
+use Rattle.zy_goals.specs.Phrases.{fact_of, reason_or_none, state_fact_of, comparison, term_of, spelled_term}
 use Rattle.zy_goals.specs.Grammar.{Tree, fact, negated, bracketed, joined, Reads, Says, parts_of, word_of, level_of}
 use Rattle.zy_goals.specs.Expressions.{Stops, Finds, Misses, Answers, Chain, chain_parts, all_joined, FindsMore, MissesMore, AnswersMore, IsForParts}
 use Rattle.zy_goals.specs.Expressions.{Negates, Joins, Closes}
@@ -60,12 +61,12 @@ behind_operator And ws h = begun 97 (110 ∷ 100 ∷ []) ws h
 
 -- no fact begins with `not`
 no_fact_not : (names : Names) (vs : List Word) → fact_of names (codes "not" ∷ vs) ≡ None
-unfolding fact_of state_fact_of comparison term_of spelled_term lone_fact why
+unfolding fact_of state_fact_of comparison term_of spelled_term lone_fact reason_or_none lone_reason
 no_fact_not names vs = refl
 
 -- no fact begins with a bracket
 no_fact_bracket : (names : Names) (vs : List Word) → fact_of names (codes "(" ∷ vs) ≡ None
-unfolding fact_of state_fact_of comparison term_of spelled_term lone_fact why
+unfolding fact_of state_fact_of comparison term_of spelled_term lone_fact reason_or_none lone_reason
 no_fact_bracket names vs = refl
 
 -- nothing binds tighter than what stands alone

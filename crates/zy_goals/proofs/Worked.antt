@@ -1,7 +1,9 @@
 -- Worked goals: what some texts mean, computed.
 use Rattle.std.proofs.Common.{◌≡◌, inl, ℕ, [], ◌∷◌, None, Some, codes, refl, sym, ap, arith}
 use Rattle.zy_isa.specs.declared.node.Node.TheVariants.{A}
-use Rattle.zy_goals.specs.declared.goal.AbortReason.TheVariants as reason
+use Rattle.zy_patterns.specs.declared.patterns.ReasonPattern.TheVariants as reason
+use Rattle.zy_patterns.specs.declared.patterns.OutcomePattern.TheVariants as outcome
+use Rattle.zy_patterns.specs.Vocabulary as outcome_word
 use Rattle.zy_goals.specs.declared.goal.Selector.TheVariants as selector
 use Rattle.zy_goals.specs.declared.goal.TxnProperty.TheVariants as property
 use Rattle.zy_goals.specs.declared.goal.MessagePattern.TheVariants as pattern
@@ -10,8 +12,6 @@ use Rattle.zy_goals.specs.declared.goal.Term.TheVariants as term
 use Rattle.zy_goals.specs.declared.goal.Comparison.TheVariants as comparison
 use Rattle.zy_goals.specs.declared.goal.StateFact.TheVariants as state_fact
 use Rattle.zy_goals.specs.declared.goal.Fact.TheVariants as facts
-use Rattle.zy_goals.specs.declared.outcomes.OutcomeKind.TheVariants as outcome
-use Rattle.zy_goals.specs.declared.outcomes.OutcomePattern.TheVariants as outcomes
 use Rattle.zy_goals.specs.declared.names.Names.TheVariants.{Unknown}
 use Rattle.zy_goals.specs.declared.reading.Query.{Query}
 use Rattle.zy_goals.specs.declared.reading.expressions.Operator.TheVariants.{Or, And}
@@ -23,9 +23,10 @@ use Rattle.zy_goals.specs.Grammar.{fact, negated, bracketed, joined, Says, endin
 
 -- opens the definitions of words and of what they begin with
 unfoldable open_all : ℕ
-unfolding words_of word.node word.link word.mode_of_node word.why word.kind_of_message word.register word.sign word.place_of_page word.lone_fact
-    word.lone_outcome word.got word.number_to word.named word.txn word.several word.selected phrase.sum phrase.register phrase.spelled_term
-    phrase.term_of phrase.compared phrase.after_term phrase.comparison phrase.mode phrase.of_page phrase.reason_of phrase.committed phrase.locks
+unfolding words_of word.link word.mode_of_node word.register word.sign word.place_of_page word.lone_fact
+    outcome_word.node outcome_word.kind outcome_word.lone_reason outcome_word.lone_outcome outcome_word.lone_got outcome_word.paged_outcome
+    outcome_word.paged_got word.number_to word.named word.txn word.several word.selected phrase.sum phrase.register phrase.spelled_term
+    phrase.term_of phrase.compared phrase.after_term phrase.comparison phrase.mode phrase.of_page phrase.reason_or_none phrase.committed phrase.locks
     phrase.of_txns phrase.numbered phrase.message phrase.of_link phrase.state_fact_of fact_of outcome_of ending
 open_all = 0
 
@@ -43,15 +44,31 @@ before = refl
 
 -- `aborted` takes the reason behind it after `txn any`
 aborted_any : fact_of Unknown (words_of (codes "txn any aborted gone"))
-    ≡ Some (facts.OfState (state_fact.Txns selector.Any (property.Aborted reason.Gone)), [])
+    ≡ Some (facts.OfState (state_fact.Txns selector.Any (property.Aborted (Some (reason.Gone None)))), [])
 unfolding open_all
 aborted_any = refl
 
 -- alone it takes none
 aborted_alone : fact_of Unknown (words_of (codes "aborted gone"))
-    ≡ Some (facts.OfState (state_fact.Txns selector.Any (property.Aborted reason.Any)), codes "gone" ∷ [])
+    ≡ Some (facts.OfState (state_fact.Txns selector.Any (property.Aborted None)), codes "gone" ∷ [])
 unfolding open_all
 aborted_alone = refl
+
+-- with its page
+aborted_of_page : fact_of Unknown (words_of (codes "txn 2 aborted gone 7 and stuck"))
+    ≡ Some (facts.OfState (state_fact.Txns (selector.One 2) (property.Aborted (Some (reason.Gone (Some 7))))), codes "and" ∷ codes "stuck" ∷ [])
+unfolding open_all
+aborted_of_page = refl
+
+-- an outcome with all its numbers
+splits : ending Unknown (words_of (codes "then split 0 1 500")) ≡ Some (Some (outcome.Split (Some 0) (Some 1) (Some 500)))
+unfolding open_all
+splits = refl
+
+-- and with one of them
+splits_page : ending Unknown (words_of (codes "then split 4")) ≡ Some (Some (outcome.Split (Some 4) None None))
+unfolding open_all
+splits_page = refl
 
 -- a message with its page
 message : fact_of Unknown (words_of (codes "link AB has pull 7")) ≡ Some (facts.OfState (state_fact.Link A (content.Has (pattern.Pull 7))), [])
@@ -89,7 +106,7 @@ tighter q s e = inl (record {
 
 -- brackets hold an `or` together, and `then` ends an expression
 brackets : (q : Query) → Says (joined And (bracketed (joined Or (fact facts.Stuck) (fact facts.Differs))) (fact facts.Deadlock)) q.goal
-    → q.then ≡ Some (outcomes.OfKind outcome.GotPage) → Means Unknown (words_of (codes "(stuck or differs)and deadlock then got page")) q
+    → q.then ≡ Some (outcome.GotPage None) → Means Unknown (words_of (codes "(stuck or differs)and deadlock then got page")) q
 unfolding open_all
 brackets q s e = inl (record {
   tree = joined And (bracketed (joined Or (fact facts.Stuck) (fact facts.Differs))) (fact facts.Deadlock);

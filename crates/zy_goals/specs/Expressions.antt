@@ -104,14 +104,14 @@ AnswersMore names o first (Err (Refused r)) = MissesMore names o (left first.at)
 -- ---- queries
 
 -- what an expression and the words after it ask for
-abbrev pub Asks : Prefix → Result Query GoalFault → Type 0
-Asks p (Ok q) = (q.goal ≡ p.goal) × (ending (left p.at) ≡ Some q.then)
-Asks p (Err e) = ending (left p.at) ≡ None
+abbrev pub Asks : Names → Prefix → Result Query GoalFault → Type 0
+Asks names p (Ok q) = (q.goal ≡ p.goal) × (ending names (left p.at) ≡ Some q.then)
+Asks names p (Err e) = ending names (left p.at) ≡ None
 
 -- what `then` and the words after it ask for
-abbrev pub AsksThen : List Word → Result Query GoalFault → Type 0
-AsksThen ws (Ok q) = IsThen ws q
-AsksThen ws (Err e) = ending ws ≡ None
+abbrev pub AsksThen : Names → List Word → Result Query GoalFault → Type 0
+AsksThen names ws (Ok q) = IsThen names ws q
+AsksThen names ws (Err e) = ending names ws ≡ None
 
 -- what an expression asks for, of which a state is wanted that does not meet it
 abbrev pub AsksNever : Prefix → Result Query GoalFault → Type 0

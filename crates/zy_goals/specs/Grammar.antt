@@ -7,7 +7,7 @@ use Rattle.zy_goals.specs.declared.goal.StateFact.TheVariants as state_fact
 use Rattle.zy_goals.specs.declared.goal.Fact.{Fact}
 use Rattle.zy_goals.specs.declared.goal.Fact.TheVariants as facts
 use Rattle.zy_goals.specs.declared.goal.Goal.{Goal, Is, Not', And', Or'}
-use Rattle.zy_goals.specs.declared.outcomes.OutcomePattern.{OutcomePattern}
+use Rattle.zy_patterns.specs.declared.patterns.OutcomePattern.{OutcomePattern}
 use Rattle.zy_goals.specs.declared.names.Names.{Names}
 use Rattle.zy_goals.specs.declared.refusal.ExpectedInGoal.TheVariants as expected
 use Rattle.zy_goals.specs.declared.refusal.WordFault.{WordFault}
@@ -72,10 +72,10 @@ whole (Some (x, [])) = Some x
 whole r = None
 
 -- [ then OUTCOME ]: the words after an expression say that no outcome, or which one, is asked for
-unfoldable pub ending : List Word → Option (Option OutcomePattern)
-ending ws =
+unfoldable pub ending : Names → List Word → Option (Option OutcomePattern)
+ending names ws =
     if are_none ws then Some None else
-    if begin_with (codes "then") ws then option_map Some (whole (outcome_of (after ws))) else
+    if begin_with (codes "then") ws then option_map Some (whole (outcome_of names (after ws))) else
     None
 
 -- what each state meets
@@ -89,17 +89,17 @@ pub record IsGoal (names : Names) (ws : List Word) (q : Query) : Type 0 where
   pub reads : Reads names 0 tree ws rest
   pub parts : parts_of tree ≤ max_parts
   pub says : Says tree q.goal
-  pub ends : ending rest ≡ Some q.then
+  pub ends : ending names rest ≡ Some q.then
 
 -- `then OUTCOME` alone
-pub record IsThen (ws : List Word) (q : Query) : Type 0 where
+pub record IsThen (names : Names) (ws : List Word) (q : Query) : Type 0 where
   pub begins : begin_with (codes "then") ws ≡ true
   pub says : Says (fact anything) q.goal
-  pub ends : ending ws ≡ Some q.then
+  pub ends : ending names ws ≡ Some q.then
 
 -- the words mean this query
 abbrev pub Means : Names → List Word → Query → Type 0
-Means names ws q = IsGoal names ws q ⊎ IsThen ws q
+Means names ws q = IsGoal names ws q ⊎ IsThen names ws q
 
 -- EXPR [ then OUTCOME ], of more parts than a goal has
 pub record IsTooLong (names : Names) (ws : List Word) : Type 0 where
@@ -108,7 +108,7 @@ pub record IsTooLong (names : Names) (ws : List Word) : Type 0 where
   pub asked : Option OutcomePattern
   pub reads : Reads names 0 tree ws rest
   pub parts : max_parts < parts_of tree
-  pub ends : ending rest ≡ Some asked
+  pub ends : ending names rest ≡ Some asked
 
 -- EXPR, of which a state is asked for that does not meet it
 pub record MeansNever (names : Names) (ws : List Word) (q : Query) : Type 0 where

@@ -4,7 +4,6 @@ pub mod Facts
 pub mod Goals
 pub mod Commits
 pub mod Ended
-pub mod Outcomes
 pub mod Words
 pub mod Vocabulary
 pub mod Phrases

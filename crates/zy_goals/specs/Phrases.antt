@@ -1,11 +1,16 @@
 -- Terms, facts and outcomes: what words begin with one, and which words come after it.
-use Rattle.std.specs.Prelude.{ℕ, List, codes, Option, Some, None, if◌then◌else◌}
+use Rattle.std.specs.Prelude.{ℕ, ◌||◌, Bool, List, codes, Option, Some, None, option_map, if◌then◌else◌}
 use Rattle.zy_isa.specs.declared.node.Node.{Node}
 use Rattle.zy_model.specs.declared.kind.Kind.{Kind}
 use Rattle.zy_model.specs.declared.kind.Kind.TheVariants as kind
 use Rattle.zy_text.specs.Words.{is_numeral}
-use Rattle.zy_goals.specs.declared.goal.AbortReason.{AbortReason}
-use Rattle.zy_goals.specs.declared.goal.AbortReason.TheVariants as reason
+use Rattle.zy_patterns.specs.declared.patterns.ReasonPattern.{ReasonPattern}
+use Rattle.zy_patterns.specs.declared.patterns.ReasonPattern.TheVariants as reason
+use Rattle.zy_patterns.specs.declared.patterns.OutcomePattern.{OutcomePattern}
+use Rattle.zy_patterns.specs.declared.patterns.OutcomePattern.TheVariants as outcome
+use Rattle.zy_patterns.specs.declared.paged.PagedOutcome.{PagedOutcome}
+use Rattle.zy_patterns.specs.Paged.{with_page}
+use Rattle.zy_patterns.specs.Vocabulary as outcome_word
 use Rattle.zy_goals.specs.declared.goal.PagePlace.TheVariants as place
 use Rattle.zy_goals.specs.declared.goal.Selector.{Selector}
 use Rattle.zy_goals.specs.declared.goal.Selector.TheVariants as selector
@@ -19,8 +24,6 @@ use Rattle.zy_goals.specs.declared.goal.StateFact.{StateFact}
 use Rattle.zy_goals.specs.declared.goal.StateFact.TheVariants as state_fact
 use Rattle.zy_goals.specs.declared.goal.Fact.{Fact}
 use Rattle.zy_goals.specs.declared.goal.Fact.TheVariants as fact
-use Rattle.zy_goals.specs.declared.outcomes.OutcomePattern.{OutcomePattern}
-use Rattle.zy_goals.specs.declared.outcomes.OutcomePattern.TheVariants as outcome
 use Rattle.zy_goals.specs.declared.names.Names.{Names}
 use Rattle.zy_goals.specs.Words.{Word, Read, ◌>>=◌, made, one, first, after, begin_with}
 use Rattle.zy_goals.specs.Vocabulary as word
@@ -93,7 +96,7 @@ comparison names ws = do
 -- NODE MODE, after `mode`
 unfoldable pub mode : List Word → Read StateFact
 mode ws = do
-  n ← one word.node ws
+  n ← one outcome_word.node ws
   m ← one word.mode_of_node n.1
   Some (state_fact.Mode n.0 m.0, m.1)
 
@@ -110,14 +113,25 @@ of_page p ws =
     if begin_with (codes "locked") ws then Some (state_fact.Locked p, after ws) else
     None
 
--- [ WHY ], after `aborted`: any reason, where none follows
-abbrev pub reason_or_any : Option AbortReason → List Word → AbortReason × List Word
-reason_or_any None ws = (reason.Any, ws)
-reason_or_any (Some r) ws = (r, after ws)
+-- a part that may be left out: it is there if the first word begins one
+abbrev pub or_none : {T : Type 0} → Bool → Read T → List Word → Read (Option T)
+or_none is part ws = if is then made Some part else Some (None, ws)
 
--- the reason, and the words after it
-unfoldable pub reason_of : List Word → AbortReason × List Word
-reason_of ws = reason_or_any (word.why (first ws)) ws
+-- [ P ]
+abbrev pub page_or_none : List Word → Read (Option ℕ)
+page_or_none ws = or_none (is_numeral (first ws)) (one word.key ws) ws
+
+-- what the first word stands for, if it stands for something
+abbrev pub one_or_none : {T : Type 0} → Option T → List Word → Read (Option T)
+one_or_none (Some x) ws = Some (Some x, after ws)
+one_or_none None ws = Some (None, ws)
+
+-- [ WHY ]
+unfoldable pub reason_or_none : List Word → Read (Option ReasonPattern)
+reason_or_none ws =
+    if begin_with (codes "frozen") ws then made (λ p. Some (reason.Frozen p)) (page_or_none (after ws)) else
+    if begin_with (codes "gone") ws then made (λ p. Some (reason.Gone p)) (page_or_none (after ws)) else
+    one_or_none (outcome_word.lone_reason (first ws)) ws
 
 -- [ before T ], after `txn T committed`
 unfoldable pub committed : Names → Selector → List Word → Read StateFact
@@ -133,11 +147,11 @@ locks s ws = None
 
 -- [ WHY ], after `txn T aborted`
 abbrev pub aborted : Selector → List Word → Read StateFact
-aborted s ws = Some (state_fact.Txns s (property.Aborted (reason_of ws).0), (reason_of ws).1)
+aborted s ws = made (λ r. state_fact.Txns s (property.Aborted r)) (reason_or_none ws)
 
 -- NODE, after `txn T at`
 abbrev pub at_node : Selector → List Word → Read StateFact
-at_node s ws = made (λ n. state_fact.Txns s (property.At n)) (one word.node ws)
+at_node s ws = made (λ n. state_fact.Txns s (property.At n)) (one outcome_word.node ws)
 
 -- K, after `txn T wrote`
 abbrev pub wrote : Selector → List Word → Read StateFact
@@ -176,7 +190,7 @@ numbered k ws = Some (pattern.OfKind k, ws)
 -- KIND, after `has`
 unfoldable pub message : List Word → Read MessagePattern
 message ws = do
-  k ← one word.kind_of_message ws
+  k ← one outcome_word.kind ws
   numbered k.0 k.1
 
 -- KIND and what may come after it, after `link L has`
@@ -222,24 +236,59 @@ abbrev pub or_else : {T : Type 0} → Option T → Option T → Option T
 or_else (Some x) o = Some x
 or_else None o = o
 
+-- a reason of an abort, where there is one; else another fact
+abbrev pub reason_or : Read (Option ReasonPattern) → Read Fact → Read Fact
+reason_or None other = None
+reason_or (Some (Some r, ws)) other = Some (word.aborted (Some r), ws)
+reason_or (Some (None, ws)) other = other
+
 -- FACT
 unfoldable pub fact_of : Names → List Word → Read Fact
 fact_of names ws =
-    or_else (one word.lone_fact ws) (made fact.OfState (state_fact_of names ws))
+    or_else (one word.lone_fact ws) (reason_or (reason_or_none ws) (made fact.OfState (state_fact_of names ws)))
 
--- ---- OUTCOME
+-- ---- OUTCOME: its node, its reason and its numbers may be left out, of a split the last ones
 
--- [ WHY ], after `aborted`
-abbrev pub outcome_aborted : List Word → Read OutcomePattern
-outcome_aborted ws = Some (outcome.Aborted (reason_of ws).0, (reason_of ws).1)
+-- [ NODE ], after `began`
+abbrev pub outcome_began : List Word → Read OutcomePattern
+outcome_began ws = made outcome.Began (one_or_none (outcome_word.node (first ws)) ws)
+
+-- [ I ], after `committed`
+abbrev pub outcome_committed : List Word → Read OutcomePattern
+outcome_committed ws = made outcome.Committed (or_none (is_numeral (first ws)) (one word.place_in_order ws) ws)
+
+-- [ T ], after `active`
+abbrev pub outcome_active : Names → List Word → Read OutcomePattern
+outcome_active names ws = made outcome.Active (or_none (is_numeral (first ws) || word.is_name (first ws)) (one (word.txn names) ws) ws)
+
+-- [ P [ P [ B ] ] ], after `split`
+abbrev pub outcome_split : List Word → Read OutcomePattern
+outcome_split ws = do
+  p ← page_or_none ws
+  q ← page_or_none p.1
+  b ← page_or_none q.1
+  Some (outcome.Split p.0 q.0 b.0, b.1)
+
+-- an outcome of one page, if the first word is one; else it is one word
+abbrev pub paged_or : Option PagedOutcome → Option OutcomePattern → List Word → Read OutcomePattern
+paged_or (Some x) other ws = made (with_page x) (page_or_none (after ws))
+paged_or None other ws = option_map (λ x. (x, after ws)) other
 
 -- KIND, after `got`
 abbrev pub outcome_got : List Word → Read OutcomePattern
-outcome_got ws = made outcome.OfKind (one word.got ws)
+outcome_got ws = paged_or (outcome_word.paged_got (first ws)) (outcome_word.lone_got (first ws)) ws
+
+-- an outcome with a page, or of one word
+abbrev pub outcome_paged : List Word → Read OutcomePattern
+outcome_paged ws = paged_or (outcome_word.paged_outcome (first ws)) (outcome_word.lone_outcome (first ws)) ws
 
 -- OUTCOME
-unfoldable pub outcome_of : List Word → Read OutcomePattern
-outcome_of ws =
-    if begin_with (codes "aborted") ws then outcome_aborted (after ws) else
+unfoldable pub outcome_of : Names → List Word → Read OutcomePattern
+outcome_of names ws =
+    if begin_with (codes "began") ws then outcome_began (after ws) else
+    if begin_with (codes "committed") ws then outcome_committed (after ws) else
+    if begin_with (codes "aborted") ws then made outcome.Aborted (reason_or_none (after ws)) else
+    if begin_with (codes "active") ws then outcome_active names (after ws) else
+    if begin_with (codes "split") ws then outcome_split (after ws) else
     if begin_with (codes "got") ws then outcome_got (after ws) else
-    made outcome.OfKind (one word.lone_outcome ws)
+    outcome_paged ws

@@ -1,10 +1,8 @@
 -- Properties of transactions, and the order of commits.
 use Rattle.std.specs.Prelude.{ℕ, ◌==◌, ◌&&◌, not, nat_lt, Bool, true, false, List, [], ◌∷◌, length}
-use Rattle.std.specs.Prelude.{if◌then◌else◌, is_some, slice_get}
+use Rattle.std.specs.Prelude.{if◌then◌else◌, is_some, slice_get, Option}
 use Rattle.std.specs.List.{list_any, list_all}
 use Rattle.zy_isa.specs.Rows.{get_row}
-use Rattle.zy_table.specs.declared.outcome.Why.{Why}
-use Rattle.zy_table.specs.declared.outcome.Why.TheVariants as why
 use Rattle.zy_table.specs.declared.status.Status.{Status}
 use Rattle.zy_table.specs.declared.status.Status.TheVariants as status
 use Rattle.zy_table.specs.declared.entry.CommitRecord.{CommitRecord}
@@ -13,32 +11,19 @@ use Rattle.zy_table.specs.Change.{txn_or}
 use Rattle.zy_table.specs.Client.{is_new, is_active}
 use Rattle.zy_table.specs.Run.{same_node}
 use Rattle.zy_table.specs.Serial.{is_committed}
-use Rattle.zy_goals.specs.declared.goal.AbortReason.{AbortReason}
-use Rattle.zy_goals.specs.declared.goal.AbortReason.TheVariants as reason
+use Rattle.zy_patterns.specs.declared.patterns.ReasonPattern.{ReasonPattern}
+use Rattle.zy_patterns.specs.Patterns.{allows_reason}
 use Rattle.zy_goals.specs.declared.goal.Selector.{Selector}
 use Rattle.zy_goals.specs.declared.goal.Selector.TheVariants as selector
 use Rattle.zy_goals.specs.declared.goal.TxnProperty.{TxnProperty}
 use Rattle.zy_goals.specs.declared.goal.TxnProperty.TheVariants as property
 
--- an abort is for this reason, on whichever page
-abbrev pub is_for : AbortReason → Why → Bool
-is_for reason.Any w = true
-is_for reason.Own why.Own = true
-is_for reason.Killed why.Killed = true
-is_for reason.BadKey why.BadKey = true
-is_for reason.Missing why.Missing = true
-is_for reason.Duplicate why.Duplicate = true
-is_for reason.Frozen (why.Frozen p) = true
-is_for reason.NoPage why.NoPage = true
-is_for reason.Gone (why.Gone p) = true
-is_for r w = false
-
--- it is aborted for this reason
-abbrev pub is_aborted : AbortReason → Status → Bool
+-- it is aborted, for this reason if one is asked for
+abbrev pub is_aborted : Option ReasonPattern → Status → Bool
 is_aborted r status.New = false
 is_aborted r status.Active = false
 is_aborted r status.Committed = false
-is_aborted r (status.Aborted w) = is_for r w
+is_aborted r (status.Aborted w) = allows_reason r w
 
 -- a transaction has a property
 abbrev pub has_property : TxnProperty → Txn → Bool

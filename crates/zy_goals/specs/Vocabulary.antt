@@ -8,12 +8,9 @@ use Rattle.zy_isa.specs.declared.node.Node.{Node}
 use Rattle.zy_isa.specs.declared.node.Node.TheVariants.{A, B}
 use Rattle.zy_model.specs.declared.mode.NodeMode.{NodeMode}
 use Rattle.zy_model.specs.declared.mode.NodeMode.TheVariants as mode
-use Rattle.zy_model.specs.declared.kind.Kind.{Kind}
-use Rattle.zy_model.specs.declared.kind.Kind.TheVariants as kind
 use Rattle.zy_text.specs.Words.{number_of, is_numeral}
 use Rattle.zy_text.specs.Names as text_names
-use Rattle.zy_goals.specs.declared.goal.AbortReason.{AbortReason}
-use Rattle.zy_goals.specs.declared.goal.AbortReason.TheVariants as reason
+use Rattle.zy_patterns.specs.declared.patterns.ReasonPattern.{ReasonPattern}
 use Rattle.zy_goals.specs.declared.goal.PagePlace.{PagePlace}
 use Rattle.zy_goals.specs.declared.goal.PagePlace.TheVariants as page_place
 use Rattle.zy_goals.specs.declared.goal.Selector.{Selector}
@@ -24,18 +21,9 @@ use Rattle.zy_goals.specs.declared.goal.Comparison.TheVariants as comparison
 use Rattle.zy_goals.specs.declared.goal.StateFact.TheVariants as state_fact
 use Rattle.zy_goals.specs.declared.goal.Fact.{Fact}
 use Rattle.zy_goals.specs.declared.goal.Fact.TheVariants as fact
-use Rattle.zy_goals.specs.declared.outcomes.OutcomeKind.{OutcomeKind}
-use Rattle.zy_goals.specs.declared.outcomes.OutcomeKind.TheVariants as outcome
 use Rattle.zy_goals.specs.declared.names.Names.{Names}
 use Rattle.zy_goals.specs.declared.names.Names.TheVariants.{Unknown, Known}
 use Rattle.zy_goals.specs.Words.{Word}
-
--- NODE
-unfoldable pub node : Word → Option Node
-node w =
-    if bytes_eq w (codes "A") then Some A else
-    if bytes_eq w (codes "B") then Some B else
-    None
 
 -- LINK, by the node that it goes from
 unfoldable pub link : Word → Option Node
@@ -55,31 +43,6 @@ mode_of_node w =
     if bytes_eq w (codes "dinit") then Some mode.DInit else
     if bytes_eq w (codes "ddual") then Some mode.DDual else
     if bytes_eq w (codes "dfinish") then Some mode.DFinish else
-    None
-
--- WHY
-unfoldable pub why : Word → Option AbortReason
-why w =
-    if bytes_eq w (codes "own") then Some reason.Own else
-    if bytes_eq w (codes "killed") then Some reason.Killed else
-    if bytes_eq w (codes "badkey") then Some reason.BadKey else
-    if bytes_eq w (codes "missing") then Some reason.Missing else
-    if bytes_eq w (codes "duplicate") then Some reason.Duplicate else
-    if bytes_eq w (codes "frozen") then Some reason.Frozen else
-    if bytes_eq w (codes "nopage") then Some reason.NoPage else
-    if bytes_eq w (codes "gone") then Some reason.Gone else
-    None
-
--- KIND
-unfoldable pub kind_of_message : Word → Option Kind
-kind_of_message w =
-    if bytes_eq w (codes "wire") then Some kind.Wire else
-    if bytes_eq w (codes "ready") then Some kind.Ready else
-    if bytes_eq w (codes "dual") then Some kind.Dual else
-    if bytes_eq w (codes "pull") then Some kind.Pull else
-    if bytes_eq w (codes "page") then Some kind.Page else
-    if bytes_eq w (codes "finish") then Some kind.Finish else
-    if bytes_eq w (codes "done") then Some kind.Done else
     None
 
 -- REG
@@ -115,11 +78,11 @@ place_of_page w =
     if bytes_eq w (codes "BA") then Some (page_place.OnLinkFrom B) else
     None
 
--- a transaction is aborted for this reason
-abbrev pub aborted : AbortReason → Fact
+-- a transaction is aborted, for this reason if there is one
+abbrev pub aborted : Option ReasonPattern → Fact
 aborted r = fact.OfState (state_fact.Txns selector.Any (property.Aborted r))
 
--- a fact of one word
+-- a fact of one word, but for reasons of aborts
 unfoldable pub lone_fact : Word → Option Fact
 lone_fact w =
     if bytes_eq w (codes "differs") then Some fact.Differs else
@@ -127,44 +90,7 @@ lone_fact w =
     if bytes_eq w (codes "deadlock") then Some fact.Deadlock else
     if bytes_eq w (codes "over") then Some (fact.OfState state_fact.Over) else
     if bytes_eq w (codes "committed") then Some (fact.OfState (state_fact.Txns selector.All property.Committed)) else
-    if bytes_eq w (codes "aborted") then Some (aborted reason.Any) else
-    option_map aborted (why w)
-
--- an outcome of one word, but for `aborted`
-unfoldable pub lone_outcome : Word → Option OutcomeKind
-lone_outcome w =
-    if bytes_eq w (codes "started") then Some outcome.Started else
-    if bytes_eq w (codes "badmode") then Some outcome.BadMode else
-    if bytes_eq w (codes "began") then Some outcome.Began else
-    if bytes_eq w (codes "idle") then Some outcome.Idle else
-    if bytes_eq w (codes "elsewhere") then Some outcome.Elsewhere else
-    if bytes_eq w (codes "notyet") then Some outcome.NotYet else
-    if bytes_eq w (codes "did") then Some outcome.Did else
-    if bytes_eq w (codes "split") then Some outcome.Split else
-    if bytes_eq w (codes "committed") then Some outcome.Committed else
-    if bytes_eq w (codes "waits") then Some outcome.Waits else
-    if bytes_eq w (codes "pulls") then Some outcome.Pulls else
-    if bytes_eq w (codes "awaits") then Some outcome.Awaits else
-    if bytes_eq w (codes "nomessage") then Some outcome.NoMessage else
-    if bytes_eq w (codes "stale") then Some outcome.Stale else
-    if bytes_eq w (codes "held") then Some outcome.Held else
-    if bytes_eq w (codes "stray") then Some outcome.Stray else
-    if bytes_eq w (codes "finishing") then Some outcome.Finishing else
-    if bytes_eq w (codes "active") then Some outcome.Active else
-    if bytes_eq w (codes "pushed") then Some outcome.Pushed else
-    if bytes_eq w (codes "nopush") then Some outcome.NoPush else
-    None
-
--- the outcome `got KIND`
-unfoldable pub got : Word → Option OutcomeKind
-got w =
-    if bytes_eq w (codes "wire") then Some outcome.GotWire else
-    if bytes_eq w (codes "ready") then Some outcome.GotReady else
-    if bytes_eq w (codes "dual") then Some outcome.GotDual else
-    if bytes_eq w (codes "pull") then Some outcome.GotPull else
-    if bytes_eq w (codes "page") then Some outcome.GotPage else
-    if bytes_eq w (codes "finish") then Some outcome.GotFinish else
-    if bytes_eq w (codes "done") then Some outcome.GotDone else
+    if bytes_eq w (codes "aborted") then Some (aborted None) else
     None
 
 -- ---- numbers and transactions
@@ -184,6 +110,10 @@ number w = number_to 9999999999 w
 -- K and P: a key, or the number of a page
 abbrev pub key : Word → Option ℕ
 key w = number_to 65535 w
+
+-- I: a place in commit order
+abbrev pub place_in_order : Word → Option ℕ
+place_in_order w = number_to 64 w
 
 -- the greatest number of a transaction
 abbrev pub max_txn : ℕ

@@ -2,29 +2,7 @@
 
 use zy_isa::Node;
 use zy_model::{Kind, NodeMode};
-
-/// Why a transaction is aborted, on whichever page.
-#[derive(Clone, Copy)]
-pub enum AbortReason {
-    /// For any of the reasons below.
-    Any,
-    /// It came to its own `abort`.
-    Own,
-    /// The client killed it.
-    Killed,
-    /// It used a key over 65535.
-    BadKey,
-    /// It wrote a row that is not there.
-    Missing,
-    /// It inserted a row that is there.
-    Duplicate,
-    /// Its insert found a full page, and the node may split no page.
-    Frozen,
-    /// Its insert found a full page, and no page can be added.
-    NoPage,
-    /// It needs a page that has left its node.
-    Gone,
-}
+use zy_patterns::ReasonPattern;
 
 /// Where a page is.
 #[derive(Clone, Copy)]
@@ -59,8 +37,8 @@ pub enum TxnProperty {
     Active,
     /// It is committed.
     Committed,
-    /// It is aborted for this reason.
-    Aborted(AbortReason),
+    /// It is aborted, for this reason if there is one here.
+    Aborted(Option<ReasonPattern>),
     /// It has begun, and at this node.
     At(Node),
     /// It has a private row at this key. A transaction that has ended has none.

@@ -7,17 +7,15 @@ pub mod facts;
 pub mod goal;
 pub mod named;
 pub mod names;
-pub mod outcomes;
 pub mod reading;
 pub mod refusal;
 mod terms;
 pub mod txns;
 
 pub use crate::goal::{
-    AbortReason, Comparison, Fact, Goal, LinkContent, MessagePattern, PagePlace, Selector,
-    StateFact, Term, TxnProperty,
+    Comparison, Fact, Goal, LinkContent, MessagePattern, PagePlace, Selector, StateFact, Term,
+    TxnProperty,
 };
 pub use crate::names::Names;
-pub use crate::outcomes::{OutcomeKind, OutcomePattern};
 pub use crate::reading::Query;
 pub use crate::refusal::{ExpectedInGoal, GoalFault, WordFault};

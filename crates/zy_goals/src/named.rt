@@ -1,6 +1,9 @@
 //! The transactions and pages that a goal names. A warning is made of them: nothing is proved of what they are.
 
-use crate::goal::{Fact, Goal, LinkContent, MessagePattern, Selector, StateFact, Term};
+use crate::goal::{
+    Fact, Goal, LinkContent, MessagePattern, Selector, StateFact, Term, TxnProperty,
+};
+use zy_patterns::ReasonPattern;
 
 /// How many transactions and pages a scenario must have for a goal to name no others; 0 where it names none.
 #[derive(Clone, Copy)]
@@ -55,13 +58,40 @@ fn named_by_term(term: Term) -> Named {
     }
 }
 
+/// What the selector of transactions names.
+fn named_by_selector(selector: Selector) -> Named {
+    match selector {
+        Selector::One(t) => Named::txn(t),
+        _ => Named::nothing(),
+    }
+}
+
+/// What the reason of an abort names.
+fn named_by_reason(reason: ReasonPattern) -> Named {
+    match reason {
+        ReasonPattern::Frozen(Some(p)) => Named::page(p),
+        ReasonPattern::Gone(Some(p)) => Named::page(p),
+        _ => Named::nothing(),
+    }
+}
+
+/// What the property of a transaction names.
+fn named_by_property(property: TxnProperty) -> Named {
+    match property {
+        TxnProperty::Aborted(Some(reason)) => named_by_reason(reason),
+        _ => Named::nothing(),
+    }
+}
+
 /// What a fact of the state names.
 fn named_by_fact(fact: StateFact) -> Named {
     match fact {
         StateFact::Page(p, _) => Named::page(p),
         StateFact::Locked(p) => Named::page(p),
         StateFact::LockedBy { txn, page } => Named::txn(txn).and(Named::page(page)),
-        StateFact::Txns(Selector::One(t), _) => Named::txn(t),
+        StateFact::Txns(selector, property) => {
+            named_by_selector(selector).and(named_by_property(property))
+        }
         StateFact::CommittedBefore { earlier, later } => Named::txn(earlier).and(Named::txn(later)),
         StateFact::Link(_, LinkContent::Has(pattern)) => named_by_pattern(pattern),
         StateFact::Compare(left, _, right) => named_by_term(left).and(named_by_term(right)),

@@ -19,12 +19,12 @@ mod words;
 
 use crate::goal::{Comparison, Fact, Goal, StateFact, Term};
 use crate::names::Names;
-use crate::outcomes::OutcomePattern;
 use crate::reading::cursor::GoalCursor;
 use crate::reading::expressions::{Prefix, expression, negated};
 use crate::reading::outcomes::outcome;
 use crate::refusal::{ExpectedInGoal, GoalFault, WordFault};
 use std::alloc::Global;
+use zy_patterns::OutcomePattern;
 
 /// What words say, and the word after them.
 type Parsed<'a, T> = Result<(T, GoalCursor<'a>), WordFault>;
@@ -48,10 +48,10 @@ fn expected_after(at: GoalCursor<'_>, expected: ExpectedInGoal) -> ExpectedInGoa
 }
 
 /// The outcome after `then`, if nothing follows it.
-fn last_outcome(at: GoalCursor<'_>) -> Result<OutcomePattern, WordFault>
-    ensures { found result ≡ spec.whole (outcome_of (left at.entry)) }
+fn last_outcome<'a>(names: Names<'a>, at: GoalCursor<'a>) -> Result<OutcomePattern, WordFault>
+    ensures { found result ≡ spec.whole (outcome_of names.entry (left at.entry)) }
 {
-    let (outcome, end) = outcome(at)?;
+    let (outcome, end) = outcome(names, at)?;
     if end.is_end() {
         Ok(outcome)
     } else {
@@ -61,13 +61,13 @@ fn last_outcome(at: GoalCursor<'_>) -> Result<OutcomePattern, WordFault>
 
 /// What comes after an expression: the end, or `then` and an outcome.
 #[tactic(auto, unfolding(crate::specs::Grammar::ending))]
-fn ending(at: GoalCursor<'_>) -> Result<Option<OutcomePattern>, WordFault>
-    ensures { found result ≡ spec.ending (left at.entry) }
+fn ending<'a>(names: Names<'a>, at: GoalCursor<'a>) -> Result<Option<OutcomePattern>, WordFault>
+    ensures { found result ≡ spec.ending names.entry (left at.entry) }
 {
     if at.is_end() {
         Ok(None)
     } else if at.is_at(b"then") {
-        let outcome = last_outcome(at.next())?;
+        let outcome = last_outcome(names, at.next())?;
         Ok(Some(outcome))
     } else {
         Err(at.refuses(expected_after(at, ExpectedInGoal::Operator)))
@@ -82,11 +82,11 @@ fn anything() -> Goal
 }
 
 /// `then` and an outcome alone.
-fn then_alone(at: GoalCursor<'_>) -> Result<Query, GoalFault>
+fn then_alone<'a>(names: Names<'a>, at: GoalCursor<'a>) -> Result<Query, GoalFault>
     requires { begin_with (codes "then") (left at) ≡ true }
-    ensures { AsksThen (left at.entry) result }
+    ensures { AsksThen names.entry (left at.entry) result }
 {
-    match ending(at) {
+    match ending(names, at) {
         Ok(then) => Ok(Query {
             goal: anything(),
             then,
@@ -96,10 +96,10 @@ fn then_alone(at: GoalCursor<'_>) -> Result<Query, GoalFault>
 }
 
 /// What an expression and the words after it ask for.
-fn asked(part: Prefix<'_>) -> Result<Query, GoalFault>
-    ensures { Asks part.entry result }
+fn asked<'a>(names: Names<'a>, part: Prefix<'a>) -> Result<Query, GoalFault>
+    ensures { Asks names.entry part.entry result }
 {
-    match ending(part.at) {
+    match ending(names, part.at) {
         Ok(then) => Ok(Query {
             goal: part.goal,
             then,
@@ -138,10 +138,10 @@ pub fn read_goal(alloc: Global, text: &[u8], names: Names<'_>) -> Result<Query, 
 {
     let start = GoalCursor::new(text);
     if start.is_at(b"then") {
-        return then_alone(start);
+        return then_alone(names, start);
     }
     let part = expression(alloc, names, start)?;
-    asked(part)
+    asked(names, part)
 }
 
 /// Reads a goal that every state is to meet, and gives its negation: a state is asked for that does not meet it. It is

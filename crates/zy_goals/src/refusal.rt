@@ -87,8 +87,8 @@ impl fmt::Display for ExpectedInGoal {
                 "a number from 0 to {most} comes here"
             ),
             ExpectedInGoal::Outcome => concat!(
-                "after then comes an outcome of the listing without its numbers, ",
-                "such as waits, pulls, got page or aborted gone"
+                "after then comes an outcome of the listing, with its numbers or without, ",
+                "such as waits, pulls 3, got page or aborted gone"
             ),
             ExpectedInGoal::End => "nothing comes after the outcome",
             ExpectedInGoal::NoThen => "what every state is to meet has no then",

@@ -5,28 +5,13 @@ ghost use Rattle.zy_table.specs.Run.{same_node as are_one};
 ghost use Rattle.zy_table.specs.Serial as table_serial;
 ghost use Rattle.zy_goals.specs.Txns as spec;
 
-use crate::goal::{AbortReason, Selector, TxnProperty};
+use crate::goal::{Selector, TxnProperty};
 use zy_isa::Node;
 use zy_machine::Machine;
-use zy_table::{CommitRecord, Status, Why};
+use zy_patterns::ReasonPattern;
+use zy_patterns::patterns::allows_reason;
+use zy_table::{CommitRecord, Status};
 use zy_txns::Txn;
-
-/// Whether an abort is for this reason.
-pub(crate) fn is_for(reason: AbortReason, why: Why) -> bool
-    ensures { result ≡ spec.is_for reason why }
-{
-    match reason {
-        AbortReason::Any => true,
-        AbortReason::Own => matches!(why, Why::Own),
-        AbortReason::Killed => matches!(why, Why::Killed),
-        AbortReason::BadKey => matches!(why, Why::BadKey),
-        AbortReason::Missing => matches!(why, Why::Missing),
-        AbortReason::Duplicate => matches!(why, Why::Duplicate),
-        AbortReason::Frozen => matches!(why, Why::Frozen(_)),
-        AbortReason::NoPage => matches!(why, Why::NoPage),
-        AbortReason::Gone => matches!(why, Why::Gone(_)),
-    }
-}
 
 /// Whether it is committed.
 fn is_committed(status: Status) -> bool
@@ -40,15 +25,15 @@ fn is_committed(status: Status) -> bool
     }
 }
 
-/// Whether it is aborted for this reason.
-fn is_aborted(reason: AbortReason, status: Status) -> bool
+/// Whether it is aborted, for this reason if one is asked for.
+fn is_aborted(reason: Option<ReasonPattern>, status: Status) -> bool
     ensures { result ≡ spec.is_aborted reason status }
 {
     match status {
         Status::New => false,
         Status::Active => false,
         Status::Committed => false,
-        Status::Aborted(why) => is_for(reason, why),
+        Status::Aborted(why) => allows_reason(reason, why),
     }
 }
 

@@ -137,14 +137,14 @@ pub fn gone_in_dual()
         is_gone (step sc choice s).outcome ≡ true → (facing (side_of sc choice s) s).me.mode ≡ SDual }
 {}
 
-/// Each page shows the low key that the wireframe has for it.
+/// Each page shows the low key that the longer of the nodes' wireframes has for it.
 pub fn lows_match()
     ensures { (sc : Scenario) → IsScenario sc → (choices : List AChoice)
         → let s = play sc (opening sc) choices in
         HasLows (newest s) (all_leaves s) }
 {}
 
-/// Each row lies on the page that the wireframe names for its key.
+/// Each row lies on the page that the longer of the nodes' wireframes names for its key.
 pub fn rows_match()
     ensures { (sc : Scenario) → IsScenario sc → (choices : List AChoice)
         → let s = play sc (opening sc) choices in RowsLie (newest s) (all_leaves s) }
@@ -156,13 +156,13 @@ pub fn each_key_has_page()
         → EachKeyHasPage (play sc (opening sc) choices) }
 {}
 
-/// What the database has at a key is on the page that the wireframe names for it.
+/// What the database has at a key is on the page that the longer of the nodes' wireframes names for it.
 pub fn value_at_page()
     ensures { (sc : Scenario) → IsScenario sc → (choices : List AChoice)
         → ValuesAtPages (play sc (opening sc) choices) }
 {}
 
-/// An exclusive lock is alone on its page, among its node's locks.
+/// The holder of an exclusive lock of a page is the only one that holds a lock of it at its node.
 pub fn exclusive_alone()
     ensures { (sc : Scenario) → IsScenario sc → (choices : List AChoice)
         → ExclusiveAlone (play sc (opening sc) choices) }
@@ -181,7 +181,7 @@ pub fn commits_listed()
 
 /// Under the rule `held` the database is that of the programs in the commit list, run one by one in its order; a
 /// transaction is there once where it is committed, and else not at all; and each has the registers of its lone run.
-/// Under `loose` the commit order may fail; the migration order of `strictly_serializable` never does.
+/// Of `loose` it says nothing: there `strictly_serializable` does, for the migration order.
 pub fn serializable()
     ensures { (sc : Scenario) → IsScenario sc → sc.rule ≡ Held → (choices : List AChoice)
         → Serializable sc (play sc (opening sc) choices) }

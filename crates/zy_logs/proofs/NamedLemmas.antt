@@ -21,7 +21,7 @@ use Rattle.zy_logs.specs.declared.log_line.LogLine.{LogLine}
 use Rattle.zy_logs.specs.declared.log_line.Logged.{Logged}
 use Rattle.zy_logs.specs.declared.log_line.Logged.TheVariants.{Step, Gap}
 use Rattle.zy_logs.specs.declared.logs.NumberedLine.{NumberedLine}
-use Rattle.zy_logs.specs.declared.told.Told.{Told}
+use Rattle.zy_patterns.specs.declared.patterns.OutcomePattern.{OutcomePattern}
 use Rattle.zy_logs.specs.declared.txns.Txns.{Txns}
 use Rattle.zy_logs.specs.Words.{Word, Read, first, after, are_none, begin_with, refused, gives, made}
 use Rattle.zy_logs.specs.Txns.{below, place}
@@ -121,19 +121,19 @@ ReadNamed count (Ok x) = names_below count x.0.choice ≡ true
 ReadNamed count (Err s) = Unit {0}
 
 -- what is made of the parts of a line, where nothing comes after them
-abbrev ended : Choice → Option Told → (Option Kind) × List Word → Read LogLine
+abbrev ended : Choice → Option OutcomePattern → (Option Kind) × List Word → Read LogLine
 ended c t k = if are_none k.1 then Ok (record { choice = c; told = t; sent = k.0 }, k.1) else refused expected.End k.1
 
 -- the parts after the choice do not change it
-named_ended : (count : ℕ) (c : Choice) (t : Option Told) (k : (Option Kind) × List Word) → names_below count c ≡ true → ReadNamed count (ended c t k)
+named_ended : (count : ℕ) (c : Choice) (t : Option OutcomePattern) (k : (Option Kind) × List Word) → names_below count c ≡ true → ReadNamed count (ended c t k)
 named_ended count c t k e = elim (are_none k.1) as (λ (b : Bool). ReadNamed count
     (if b then Ok (record { choice = c; told = t; sent = k.0 }, k.1) else refused expected.End k.1)) [ true ↦ e | false ↦ tt ]
 
-named_sent : (count : ℕ) (c : Choice) (t : Option Told) (r : Read (Option Kind)) → names_below count c ≡ true → ReadNamed count (r >>= ended c t)
+named_sent : (count : ℕ) (c : Choice) (t : Option OutcomePattern) (r : Read (Option Kind)) → names_below count c ≡ true → ReadNamed count (r >>= ended c t)
 named_sent count c t (Ok k) e = named_ended count c t k e
 named_sent count c t (Err s) e = tt
 
-named_told : (count : ℕ) (c : Choice) (r : Read (Option Told)) → names_below count c ≡ true
+named_told : (count : ℕ) (c : Choice) (r : Read (Option OutcomePattern)) → names_below count c ≡ true
     → ReadNamed count (r >>= λ t. sent_of t.1 >>= ended c t.0)
 named_told count c (Ok t) e = named_sent count c t.0 (sent_of t.1) e
 named_told count c (Err s) e = tt

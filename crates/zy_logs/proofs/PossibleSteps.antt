@@ -1,6 +1,6 @@
 -- What a step gives, its choice can give: a walk over the lines of the step table.
 use Rattle.std.proofs.Common.{◌≡◌, ℕ, List, [], ◌∷◌, length, true, not, nat_lt, nat_le, ◌&&◌, ◌||◌, Option, Some, None, refl, subst}
-use Rattle.std.proofs.lemmas.Bool.{cond_both, or_left, or_right}
+use Rattle.std.proofs.lemmas.Bool.{cond_both, or_left, or_right, false≢true}
 use Rattle.zy_isa.specs.Limits.{max_key}
 use Rattle.zy_isa.specs.declared.node.Node.{Node}
 use Rattle.zy_isa.specs.declared.instr.Reg.{Reg}
@@ -35,17 +35,17 @@ use Rattle.zy_table.specs.Run.{split_step, full_step, insert_step, lock_of, acce
 use Rattle.zy_table.specs.Run.{effect_step, instr_step, run_step}
 use Rattle.zy_table.specs.Take.{is_held, outcome_of, arrival_step, pull_step, message_step, front_step, take_step}
 use Rattle.zy_table.specs.Play.{move, side_of, step}
-use Rattle.zy_logs.specs.declared.told.LoggedReason.{LoggedReason}
-use Rattle.zy_logs.specs.declared.told.LoggedReason.TheVariants as reason
-use Rattle.zy_logs.specs.declared.told.Told.{Told}
-use Rattle.zy_logs.specs.declared.told.Told.TheVariants as told
-use Rattle.zy_logs.specs.Agrees.{TellsReason, Tells}
+use Rattle.zy_patterns.specs.declared.patterns.ReasonPattern.{ReasonPattern}
+use Rattle.zy_patterns.specs.declared.patterns.ReasonPattern.TheVariants as reason
+use Rattle.zy_patterns.specs.declared.patterns.OutcomePattern.{OutcomePattern}
+use Rattle.zy_patterns.specs.declared.patterns.OutcomePattern.TheVariants as pattern
+use Rattle.zy_patterns.specs.Patterns.{matches, matches_reason}
 use Rattle.zy_logs.specs.Possible.{is_kill, is_run, can_abort, can_give}
 
 -- ---- what a line gives in full
 
 -- why a transaction was aborted, in full
-abbrev reason_of : Why → LoggedReason
+abbrev reason_of : Why → ReasonPattern
 reason_of why.Own = reason.Own
 reason_of why.Killed = reason.Killed
 reason_of why.BadKey = reason.BadKey
@@ -56,35 +56,35 @@ reason_of why.NoPage = reason.NoPage
 reason_of (why.Gone p) = reason.Gone (Some p)
 
 -- an outcome, in full
-abbrev in_full : Outcome → Told
-in_full outcome.Started = told.Started
-in_full outcome.BadMode = told.BadMode
-in_full (outcome.Began n) = told.Began (Some n)
-in_full outcome.Idle = told.Idle
-in_full outcome.Elsewhere = told.Elsewhere
-in_full outcome.NotYet = told.NotYet
-in_full outcome.Did = told.Did
-in_full (outcome.Split p q k) = told.Split (Some p) (Some q) (Some k)
-in_full (outcome.Aborted w) = told.Aborted (Some (reason_of w))
-in_full (outcome.Committed i) = told.Committed (Some i)
-in_full (outcome.Waits p) = told.Waits (Some p)
-in_full (outcome.Pulls p) = told.Pulls (Some p)
-in_full (outcome.Awaits p) = told.Awaits (Some p)
-in_full outcome.NoMessage = told.NoMessage
-in_full outcome.GotWire = told.GotWire
-in_full outcome.GotReady = told.GotReady
-in_full outcome.GotDual = told.GotDual
-in_full (outcome.Stale p) = told.Stale (Some p)
-in_full (outcome.Held p) = told.Held (Some p)
-in_full (outcome.GotPull p) = told.GotPull (Some p)
-in_full (outcome.GotPage p) = told.GotPage (Some p)
-in_full outcome.GotFinish = told.GotFinish
-in_full outcome.GotDone = told.GotDone
-in_full outcome.Stray = told.Stray
-in_full outcome.Finishing = told.Finishing
-in_full (outcome.Active t) = told.Active (Some t)
-in_full (outcome.Pushed p) = told.Pushed (Some p)
-in_full outcome.NoPush = told.NoPush
+abbrev in_full : Outcome → OutcomePattern
+in_full outcome.Started = pattern.Started
+in_full outcome.BadMode = pattern.BadMode
+in_full (outcome.Began n) = pattern.Began (Some n)
+in_full outcome.Idle = pattern.Idle
+in_full outcome.Elsewhere = pattern.Elsewhere
+in_full outcome.NotYet = pattern.NotYet
+in_full outcome.Did = pattern.Did
+in_full (outcome.Split p q k) = pattern.Split (Some p) (Some q) (Some k)
+in_full (outcome.Aborted w) = pattern.Aborted (Some (reason_of w))
+in_full (outcome.Committed i) = pattern.Committed (Some i)
+in_full (outcome.Waits p) = pattern.Waits (Some p)
+in_full (outcome.Pulls p) = pattern.Pulls (Some p)
+in_full (outcome.Awaits p) = pattern.Awaits (Some p)
+in_full outcome.NoMessage = pattern.NoMessage
+in_full outcome.GotWire = pattern.GotWire
+in_full outcome.GotReady = pattern.GotReady
+in_full outcome.GotDual = pattern.GotDual
+in_full (outcome.Stale p) = pattern.Stale (Some p)
+in_full (outcome.Held p) = pattern.Held (Some p)
+in_full (outcome.GotPull p) = pattern.GotPull (Some p)
+in_full (outcome.GotPage p) = pattern.GotPage (Some p)
+in_full outcome.GotFinish = pattern.GotFinish
+in_full outcome.GotDone = pattern.GotDone
+in_full outcome.Stray = pattern.Stray
+in_full outcome.Finishing = pattern.Finishing
+in_full (outcome.Active t) = pattern.Active (Some t)
+in_full (outcome.Pushed p) = pattern.Pushed (Some p)
+in_full outcome.NoPush = pattern.NoPush
 
 -- a choice can give an outcome
 abbrev Gives : Choice → Outcome → Type 0
@@ -92,26 +92,19 @@ Gives c o = can_give c (in_full o) ≡ true
 
 -- ---- what a line gives of it, as far as it does
 
--- the same outcome
-same : (c : Choice) {o p : Outcome} → o ≡ p → Gives c o → Gives c p
-same c e g = subst (Gives c) e g
-
--- a reason
-same_reason : (c : Choice) {w v : Why} → w ≡ v → can_abort c (reason_of w) ≡ true → can_abort c (reason_of v) ≡ true
-same_reason c e g = subst (λ (x : Why). can_abort c (reason_of x) ≡ true) e g
-
-reason_told : (c : Choice) (r : LoggedReason) (w : Why) → TellsReason r w → can_abort c (reason_of w) ≡ true → can_abort c r ≡ true
-reason_told c reason.Own w e g = same_reason c e g
-reason_told c reason.Killed w e g = same_reason c e g
-reason_told c reason.BadKey w e g = same_reason c e g
-reason_told c reason.Missing w e g = same_reason c e g
-reason_told c reason.Duplicate w e g = same_reason c e g
-reason_told c (reason.Frozen page) w e g = same_reason c e.1 g
-reason_told c reason.NoPage w e g = same_reason c e g
-reason_told c (reason.Gone page) w e g = same_reason c e.1 g
+reason_told : (c : Choice) (r : ReasonPattern) (w : Why) → matches_reason r w ≡ true → can_abort c (reason_of w) ≡ true → can_abort c r ≡ true
+reason_told c reason.Own why.Own e g = g
+reason_told c reason.Killed why.Killed e g = g
+reason_told c reason.BadKey why.BadKey e g = g
+reason_told c reason.Missing why.Missing e g = g
+reason_told c reason.Duplicate why.Duplicate e g = g
+reason_told c (reason.Frozen page) (why.Frozen p) e g = g
+reason_told c reason.NoPage why.NoPage e g = g
+reason_told c (reason.Gone page) (why.Gone p) e g = g
+reason_told c r w e g = absurd (false≢true e)
 
 -- a reason that is left out
-any_reason : (c : Choice) (r : LoggedReason) → can_abort c r ≡ true → (is_kill c || is_run c) ≡ true
+any_reason : (c : Choice) (r : ReasonPattern) → can_abort c r ≡ true → (is_kill c || is_run c) ≡ true
 any_reason c reason.Killed e = or_left (is_kill c) (is_run c) e
 any_reason c reason.Own e = or_right (is_kill c) (is_run c) e
 any_reason c reason.BadKey e = or_right (is_kill c) (is_run c) e
@@ -122,36 +115,37 @@ any_reason c reason.NoPage e = or_right (is_kill c) (is_run c) e
 any_reason c (reason.Gone page) e = or_right (is_kill c) (is_run c) e
 
 -- whatever is told of an outcome that a choice can give, it can give
-told_possible : (c : Choice) (t : Told) (o : Outcome) → Tells t o → Gives c o → can_give c t ≡ true
-told_possible c told.Started o e g = same c e g
-told_possible c told.BadMode o e g = same c e g
-told_possible c (told.Began n) o e g = same c e.1 g
-told_possible c told.Idle o e g = same c e g
-told_possible c told.Elsewhere o e g = same c e g
-told_possible c told.NotYet o e g = same c e g
-told_possible c told.Did o e g = same c e g
-told_possible c (told.Split page new_page boundary) o e g = same c e.3 g
-told_possible c (told.Aborted None) o e g = any_reason c (reason_of e.0) (same c e.1 g)
-told_possible c (told.Aborted (Some r)) o e g = reason_told c r e.0 e.2 (same c e.1 g)
-told_possible c (told.Committed place) o e g = same c e.1 g
-told_possible c (told.Waits page) o e g = same c e.1 g
-told_possible c (told.Pulls page) o e g = same c e.1 g
-told_possible c (told.Awaits page) o e g = same c e.1 g
-told_possible c told.NoMessage o e g = same c e g
-told_possible c told.GotWire o e g = same c e g
-told_possible c told.GotReady o e g = same c e g
-told_possible c told.GotDual o e g = same c e g
-told_possible c (told.Stale page) o e g = same c e.1 g
-told_possible c (told.Held page) o e g = same c e.1 g
-told_possible c (told.GotPull page) o e g = same c e.1 g
-told_possible c (told.GotPage page) o e g = same c e.1 g
-told_possible c told.GotFinish o e g = same c e g
-told_possible c told.GotDone o e g = same c e g
-told_possible c told.Stray o e g = same c e g
-told_possible c told.Finishing o e g = same c e g
-told_possible c (told.Active txn) o e g = same c e.1 g
-told_possible c (told.Pushed page) o e g = same c e.1 g
-told_possible c told.NoPush o e g = same c e g
+told_possible : (c : Choice) (t : OutcomePattern) (o : Outcome) → matches t o ≡ true → Gives c o → can_give c t ≡ true
+told_possible c pattern.Started outcome.Started e g = g
+told_possible c pattern.BadMode outcome.BadMode e g = g
+told_possible c (pattern.Began node) (outcome.Began n) e g = g
+told_possible c pattern.Idle outcome.Idle e g = g
+told_possible c pattern.Elsewhere outcome.Elsewhere e g = g
+told_possible c pattern.NotYet outcome.NotYet e g = g
+told_possible c pattern.Did outcome.Did e g = g
+told_possible c (pattern.Split page new_page boundary) (outcome.Split p q k) e g = g
+told_possible c (pattern.Aborted None) (outcome.Aborted w) e g = any_reason c (reason_of w) g
+told_possible c (pattern.Aborted (Some r)) (outcome.Aborted w) e g = reason_told c r w e g
+told_possible c (pattern.Committed place) (outcome.Committed i) e g = g
+told_possible c (pattern.Waits page) (outcome.Waits p) e g = g
+told_possible c (pattern.Pulls page) (outcome.Pulls p) e g = g
+told_possible c (pattern.Awaits page) (outcome.Awaits p) e g = g
+told_possible c pattern.NoMessage outcome.NoMessage e g = g
+told_possible c pattern.GotWire outcome.GotWire e g = g
+told_possible c pattern.GotReady outcome.GotReady e g = g
+told_possible c pattern.GotDual outcome.GotDual e g = g
+told_possible c (pattern.Stale page) (outcome.Stale p) e g = g
+told_possible c (pattern.Held page) (outcome.Held p) e g = g
+told_possible c (pattern.GotPull page) (outcome.GotPull p) e g = g
+told_possible c (pattern.GotPage page) (outcome.GotPage p) e g = g
+told_possible c pattern.GotFinish outcome.GotFinish e g = g
+told_possible c pattern.GotDone outcome.GotDone e g = g
+told_possible c pattern.Stray outcome.Stray e g = g
+told_possible c pattern.Finishing outcome.Finishing e g = g
+told_possible c (pattern.Active txn) (outcome.Active t) e g = g
+told_possible c (pattern.Pushed page) (outcome.Pushed p) e g = g
+told_possible c pattern.NoPush outcome.NoPush e g = g
+told_possible c t o e g = absurd (false≢true e)
 
 -- ---- run
 
@@ -409,6 +403,6 @@ moves sc (Finish_at n) s = finishes n s
 moves sc (Push n) s = pushes n s
 
 -- whatever is told of the outcome of a step, its choice can give
-pub step_possible : (sc : Scenario) (c : Choice) (s : State) (t : Told) → Tells t (step sc c s).outcome → can_give c t ≡ true
+pub step_possible : (sc : Scenario) (c : Choice) (s : State) (t : OutcomePattern) → matches t (step sc c s).outcome ≡ true → can_give c t ≡ true
 unfolding step
 step_possible sc c s t e = told_possible c t (step sc c s).outcome e (moves sc c (facing (side_of sc c s) s))

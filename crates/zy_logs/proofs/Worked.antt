@@ -1,5 +1,5 @@
 -- Worked lines: what some words spell, and what agrees with it, computed.
-use Rattle.std.proofs.Common.{◌≡◌, ℕ, ◌++◌, List, [], ◌∷◌, None, Some, Ok, Err, codes, refl}
+use Rattle.std.proofs.Common.{◌≡◌, true, ℕ, ◌++◌, List, [], ◌∷◌, None, Some, Ok, Err, codes, refl}
 use Rattle.zy_isa.specs.declared.node.Node.TheVariants.{A, B}
 use Rattle.zy_isa.specs.declared.node.Actor.TheVariants as actor
 use Rattle.zy_isa.specs.declared.choice.Choice.TheVariants.{Take, Push, Run, Begin, Kill}
@@ -8,25 +8,25 @@ use Rattle.zy_table.specs.declared.outcome.Outcome.TheVariants as outcome
 use Rattle.zy_text.specs.Words.{words_of}
 use Rattle.zy_logs.specs.declared.expected.ExpectedInLog.TheVariants as expected
 use Rattle.zy_logs.specs.declared.log_line.Logged.TheVariants.{Step, Gap}
-use Rattle.zy_logs.specs.declared.told.LoggedReason.TheVariants as reason
-use Rattle.zy_logs.specs.declared.told.Told.TheVariants as told
+use Rattle.zy_patterns.specs.declared.patterns.ReasonPattern.TheVariants as reason
+use Rattle.zy_patterns.specs.declared.patterns.OutcomePattern.TheVariants as pattern
 use Rattle.zy_logs.specs.declared.txns.Txns.{Txns}
-use Rattle.zy_logs.specs.Agrees.{Tells}
 use Rattle.zy_logs.specs.Txns.{place}
-use Rattle.zy_logs.specs.Vocabulary as word
+use Rattle.zy_patterns.specs.Vocabulary as word
+use Rattle.zy_patterns.specs.Patterns.{matches}
 use Rattle.zy_logs.specs.Lines as line
 use Rattle.zy_logs.specs.Lines.{line_of}
 use Rattle.zy_logs.specs.Logs.{logs_of}
 
 -- opens the definitions of what words begin with
 unfoldable open_all : ℕ
-unfolding word.node word.kind word.lone_reason word.lone_outcome word.lone_got line.got line.paged line.outcome_of
+unfolding word.node word.kind word.lone_reason word.lone_outcome word.lone_got word.paged_outcome word.paged_got line.outcome_of
 open_all = 0
 
 module _ (txns : Txns) where
   -- a choice, its outcome and a message
   takes : line_of txns (words_of (codes "A take -> got ready ! dual"))
-      ≡ Ok (Step (record { choice = Take A; told = Some told.GotReady; sent = Some message.Dual }))
+      ≡ Ok (Step (record { choice = Take A; told = Some pattern.GotReady; sent = Some message.Dual }))
   unfolding open_all
   takes = refl
 
@@ -42,7 +42,7 @@ module _ (txns : Txns) where
 
   -- the number is left out before a message
   without_page : line_of txns (words_of (codes "B push -> pushed ! page"))
-      ≡ Ok (Step (record { choice = Push B; told = Some (told.Pushed None); sent = Some message.Page }))
+      ≡ Ok (Step (record { choice = Push B; told = Some (pattern.Pushed None); sent = Some message.Page }))
   unfolding open_all
   without_page = refl
 
@@ -68,19 +68,19 @@ module _ (txns : Txns) where
 
   -- a transaction by its number
   begins : txns.count ≡ 1 → line_of txns (words_of (codes "C begin 0 -> began A"))
-      ≡ Ok (Step (record { choice = Begin 0; told = Some (told.Began (Some A)); sent = None }))
+      ≡ Ok (Step (record { choice = Begin 0; told = Some (pattern.Began (Some A)); sent = None }))
   unfolding open_all
   begins one = rw one refl
 
   -- and by its name; the number of the commit is left out
   commits : txns.count ≡ 1 → place txns.names.now (codes "transfer") ≡ Some 0 → line_of txns (words_of (codes "A run transfer -> committed"))
-      ≡ Ok (Step (record { choice = Run A 0; told = Some (told.Committed None); sent = None }))
+      ≡ Ok (Step (record { choice = Run A 0; told = Some (pattern.Committed None); sent = None }))
   unfolding open_all
   commits one known = rw (known, one) refl
 
   -- `killed` is the client's abort alone
   kills : txns.count ≡ 1 → line_of txns (words_of (codes "C kill 0 -> aborted killed"))
-      ≡ Ok (Step (record { choice = Kill 0; told = Some (told.Aborted (Some reason.Killed)); sent = None }))
+      ≡ Ok (Step (record { choice = Kill 0; told = Some (pattern.Aborted (Some reason.Killed)); sent = None }))
   unfolding open_all
   kills one = rw one refl
 
@@ -150,9 +150,9 @@ module _ (txns : Txns) where
   gap_too_long = refl
 
 -- the logged page is the one that came
-page_told : Tells (told.Waits (Some 3)) (outcome.Waits 3)
-page_told = (3, refl, refl)
+page_told : matches (pattern.Waits (Some 3)) (outcome.Waits 3) ≡ true
+page_told = refl
 
 -- any page may come where none was logged
-page_left_out : Tells (told.Waits None) (outcome.Waits 7)
-page_left_out = (7, refl, tt)
+page_left_out : matches (pattern.Waits None) (outcome.Waits 7) ≡ true
+page_left_out = refl

@@ -4,8 +4,6 @@ pub mod Kinds
 pub mod Words
 pub mod Cursors
 pub mod Txns
-pub mod Vocabulary
 pub mod Parts
-pub mod Paged
 pub mod Lines
 pub mod Logs

@@ -8,18 +8,21 @@ use Rattle.zy_isa.specs.declared.choice.Choice.{Choice}
 use Rattle.zy_isa.specs.declared.choice.Choice.TheVariants as choice
 use Rattle.zy_isa.specs.Results.{◌>>=◌}
 use Rattle.zy_model.specs.declared.kind.Kind.{Kind}
+use Rattle.zy_logs.specs.declared.expected.ExpectedInLog.{ExpectedInLog}
 use Rattle.zy_logs.specs.declared.expected.ExpectedInLog.TheVariants as expected
 use Rattle.zy_logs.specs.declared.expected.Misread.{Misread}
 use Rattle.zy_logs.specs.declared.log_line.LogLine.{LogLine}
 use Rattle.zy_logs.specs.declared.log_line.Logged.{Logged}
 use Rattle.zy_logs.specs.declared.log_line.Logged.TheVariants.{Step, Gap}
-use Rattle.zy_logs.specs.declared.told.Told.{Told}
-use Rattle.zy_logs.specs.declared.told.Told.TheVariants as told
+use Rattle.zy_patterns.specs.declared.paged.PagedOutcome.{PagedOutcome}
+use Rattle.zy_patterns.specs.declared.patterns.OutcomePattern.{OutcomePattern}
+use Rattle.zy_patterns.specs.declared.patterns.OutcomePattern.TheVariants as pattern
 use Rattle.zy_logs.specs.declared.txns.Txns.{Txns}
 use Rattle.zy_logs.specs.Words.{Word, Read, first, after, are_none, begin_with, end_outcome, refused, gives, made}
 use Rattle.zy_logs.specs.Parts.{or_none, page, place, txn, node_at, reason}
 use Rattle.zy_logs.specs.Possible.{can_give}
-use Rattle.zy_logs.specs.Vocabulary as word
+use Rattle.zy_patterns.specs.Vocabulary as word
+use Rattle.zy_patterns.specs.Paged.{with_page}
 
 -- ---- CHOICE
 
@@ -50,37 +53,32 @@ choice_of txns ws =
 -- ---- OUTCOME: its node, its reason and its numbers may be left out, of a split the last ones
 
 -- P Q B, after `split`
-abbrev pub split : List Word → Read Told
+abbrev pub split : List Word → Read OutcomePattern
 split ws = do
   p ← or_none page ws
   q ← or_none page p.1
   b ← or_none page q.1
-  Ok (told.Split p.0 q.0 b.0, b.1)
+  Ok (pattern.Split p.0 q.0 b.0, b.1)
+
+-- an outcome of one page, which may be left out, if the first word is one; else it is one word
+abbrev pub paged_or : Option PagedOutcome → Option OutcomePattern → ExpectedInLog → List Word → Read OutcomePattern
+paged_or (Some x) other e ws = made (with_page x) (or_none page (after ws))
+paged_or None other e ws = gives other e ws
 
 -- KIND, after `got`
-unfoldable pub got : List Word → Read Told
-got ws =
-    if begin_with (codes "pull") ws then made told.GotPull (or_none page (after ws)) else
-    if begin_with (codes "page") ws then made told.GotPage (or_none page (after ws)) else
-    gives (word.lone_got (first ws)) expected.Got ws
+abbrev pub got : List Word → Read OutcomePattern
+got ws = paged_or (word.paged_got (first ws)) (word.lone_got (first ws)) expected.Got ws
 
 -- an outcome with a page, or of one word
-unfoldable pub paged : List Word → Read Told
-paged ws =
-    if begin_with (codes "waits") ws then made told.Waits (or_none page (after ws)) else
-    if begin_with (codes "pulls") ws then made told.Pulls (or_none page (after ws)) else
-    if begin_with (codes "awaits") ws then made told.Awaits (or_none page (after ws)) else
-    if begin_with (codes "stale") ws then made told.Stale (or_none page (after ws)) else
-    if begin_with (codes "held") ws then made told.Held (or_none page (after ws)) else
-    if begin_with (codes "pushed") ws then made told.Pushed (or_none page (after ws)) else
-    gives (word.lone_outcome (first ws)) expected.Outcome ws
+abbrev pub paged : List Word → Read OutcomePattern
+paged ws = paged_or (word.paged_outcome (first ws)) (word.lone_outcome (first ws)) expected.Outcome ws
 
-unfoldable pub outcome_of : Txns → List Word → Read Told
+unfoldable pub outcome_of : Txns → List Word → Read OutcomePattern
 outcome_of txns ws =
-    if begin_with (codes "began") ws then made told.Began (or_none node_at (after ws)) else
-    if begin_with (codes "committed") ws then made told.Committed (or_none place (after ws)) else
-    if begin_with (codes "aborted") ws then made told.Aborted (or_none reason (after ws)) else
-    if begin_with (codes "active") ws then made told.Active (or_none (txn txns) (after ws)) else
+    if begin_with (codes "began") ws then made pattern.Began (or_none node_at (after ws)) else
+    if begin_with (codes "committed") ws then made pattern.Committed (or_none place (after ws)) else
+    if begin_with (codes "aborted") ws then made pattern.Aborted (or_none reason (after ws)) else
+    if begin_with (codes "active") ws then made pattern.Active (or_none (txn txns) (after ws)) else
     if begin_with (codes "split") ws then split (after ws) else
     if begin_with (codes "got") ws then got (after ws) else
     paged ws
@@ -88,17 +86,17 @@ outcome_of txns ws =
 -- ---- the line
 
 -- OUTCOME, where a step of the choice can give it
-abbrev pub possible : Txns → Choice → List Word → Read Told
+abbrev pub possible : Txns → Choice → List Word → Read OutcomePattern
 possible txns c ws = do
   t ← outcome_of txns ws
   if can_give c t.0 then Ok t else refused (expected.OutcomeOf c) ws
 
 -- `?` or OUTCOME, after the choice and `->`
-abbrev pub logged : Txns → Choice → List Word → Read (Option Told)
+abbrev pub logged : Txns → Choice → List Word → Read (Option OutcomePattern)
 logged txns c ws = if begin_with (codes "?") ws then Ok (None, after ws) else made Some (possible txns c ws)
 
 -- [ -> OUTCOME ], after the choice
-abbrev pub told_of : Txns → Choice → List Word → Read (Option Told)
+abbrev pub told_of : Txns → Choice → List Word → Read (Option OutcomePattern)
 told_of txns c ws =
     if begin_with (codes "->") ws then logged txns c (after ws) else
     if end_outcome ws then Ok (None, ws) else

@@ -5,12 +5,12 @@ use Rattle.zy_isa.specs.Results.{◌>>=◌}
 use Rattle.zy_text.specs.Words.{number_of, is_numeral}
 use Rattle.zy_text.specs.Names.{is_name}
 use Rattle.zy_logs.specs.declared.expected.ExpectedInLog.TheVariants as expected
-use Rattle.zy_logs.specs.declared.told.LoggedReason.{LoggedReason}
-use Rattle.zy_logs.specs.declared.told.LoggedReason.TheVariants as a_reason
+use Rattle.zy_patterns.specs.declared.patterns.ReasonPattern.{ReasonPattern}
+use Rattle.zy_patterns.specs.declared.patterns.ReasonPattern.TheVariants as pattern
 use Rattle.zy_logs.specs.declared.txns.Txns.{Txns}
 use Rattle.zy_logs.specs.Words.{Word, Read, first, after, begin_with, end_outcome, refused, gives, made}
 use Rattle.zy_logs.specs.Txns.{named}
-use Rattle.zy_logs.specs.Vocabulary as word
+use Rattle.zy_patterns.specs.Vocabulary as word
 
 -- a part that may be left out where an outcome ends
 abbrev pub or_none : {T : Type 0} → (List Word → Read T) → List Word → Read (Option T)
@@ -52,8 +52,8 @@ abbrev pub node_at : List Word → Read Node
 node_at ws = gives (word.node (first ws)) expected.Node ws
 
 -- WHY; its page may be left out
-abbrev pub reason : List Word → Read LoggedReason
+abbrev pub reason : List Word → Read ReasonPattern
 reason ws =
-    if begin_with (codes "frozen") ws then made a_reason.Frozen (or_none page (after ws)) else
-    if begin_with (codes "gone") ws then made a_reason.Gone (or_none page (after ws)) else
+    if begin_with (codes "frozen") ws then made pattern.Frozen (or_none page (after ws)) else
+    if begin_with (codes "gone") ws then made pattern.Gone (or_none page (after ws)) else
     gives (word.lone_reason (first ws)) expected.Reason ws

@@ -2,10 +2,10 @@
 use Rattle.std.specs.Prelude.{◌||◌, Bool, true, false, Some, None}
 use Rattle.zy_isa.specs.declared.choice.Choice.{Choice}
 use Rattle.zy_isa.specs.declared.choice.Choice.TheVariants.{Start, Begin, Kill, Run, Take, Finish, Push}
-use Rattle.zy_logs.specs.declared.told.LoggedReason.{LoggedReason}
-use Rattle.zy_logs.specs.declared.told.LoggedReason.TheVariants as reason
-use Rattle.zy_logs.specs.declared.told.Told.{Told}
-use Rattle.zy_logs.specs.declared.told.Told.TheVariants as told
+use Rattle.zy_patterns.specs.declared.patterns.ReasonPattern.{ReasonPattern}
+use Rattle.zy_patterns.specs.declared.patterns.ReasonPattern.TheVariants as reason
+use Rattle.zy_patterns.specs.declared.patterns.OutcomePattern.{OutcomePattern}
+use Rattle.zy_patterns.specs.declared.patterns.OutcomePattern.TheVariants as pattern
 
 abbrev pub is_start : Choice → Bool
 is_start Start = true
@@ -36,38 +36,38 @@ is_push (Push n) = true
 is_push c = false
 
 -- a choice can abort a transaction for this reason
-abbrev pub can_abort : Choice → LoggedReason → Bool
+abbrev pub can_abort : Choice → ReasonPattern → Bool
 can_abort c reason.Killed = is_kill c
 can_abort c r = is_run c
 
 -- a choice can give the outcome of a line
-abbrev pub can_give : Choice → Told → Bool
-can_give c told.Started = is_start c
-can_give c told.BadMode = is_start c || is_finish c || is_push c
-can_give c (told.Began n) = is_begin c
-can_give c told.Idle = is_begin c || is_kill c || is_run c
-can_give c told.Elsewhere = is_run c
-can_give c told.NotYet = is_run c
-can_give c told.Did = is_run c
-can_give c (told.Split page new_page boundary) = is_run c
-can_give c (told.Aborted None) = is_kill c || is_run c
-can_give c (told.Aborted (Some r)) = can_abort c r
-can_give c (told.Committed place) = is_run c
-can_give c (told.Waits page) = is_run c
-can_give c (told.Pulls page) = is_run c
-can_give c (told.Awaits page) = is_run c
-can_give c told.NoMessage = is_take c
-can_give c told.GotWire = is_take c
-can_give c told.GotReady = is_take c
-can_give c told.GotDual = is_take c
-can_give c (told.Stale page) = is_take c
-can_give c (told.Held page) = is_take c
-can_give c (told.GotPull page) = is_take c
-can_give c (told.GotPage page) = is_take c
-can_give c told.GotFinish = is_take c
-can_give c told.GotDone = is_take c
-can_give c told.Stray = is_take c
-can_give c told.Finishing = is_finish c
-can_give c (told.Active txn) = is_finish c
-can_give c (told.Pushed page) = is_push c
-can_give c told.NoPush = is_push c
+abbrev pub can_give : Choice → OutcomePattern → Bool
+can_give c pattern.Started = is_start c
+can_give c pattern.BadMode = is_start c || is_finish c || is_push c
+can_give c (pattern.Began n) = is_begin c
+can_give c pattern.Idle = is_begin c || is_kill c || is_run c
+can_give c pattern.Elsewhere = is_run c
+can_give c pattern.NotYet = is_run c
+can_give c pattern.Did = is_run c
+can_give c (pattern.Split page new_page boundary) = is_run c
+can_give c (pattern.Aborted None) = is_kill c || is_run c
+can_give c (pattern.Aborted (Some r)) = can_abort c r
+can_give c (pattern.Committed place) = is_run c
+can_give c (pattern.Waits page) = is_run c
+can_give c (pattern.Pulls page) = is_run c
+can_give c (pattern.Awaits page) = is_run c
+can_give c pattern.NoMessage = is_take c
+can_give c pattern.GotWire = is_take c
+can_give c pattern.GotReady = is_take c
+can_give c pattern.GotDual = is_take c
+can_give c (pattern.Stale page) = is_take c
+can_give c (pattern.Held page) = is_take c
+can_give c (pattern.GotPull page) = is_take c
+can_give c (pattern.GotPage page) = is_take c
+can_give c pattern.GotFinish = is_take c
+can_give c pattern.GotDone = is_take c
+can_give c pattern.Stray = is_take c
+can_give c pattern.Finishing = is_finish c
+can_give c (pattern.Active txn) = is_finish c
+can_give c (pattern.Pushed page) = is_push c
+can_give c pattern.NoPush = is_push c

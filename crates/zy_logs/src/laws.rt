@@ -5,11 +5,11 @@ ghost use Rattle.zy_isa.specs.Scenario.{AreNamed, Scenario as AScenario};
 ghost use Rattle.zy_table.specs.Play.{step};
 ghost use Rattle.zy_table.specs.State.{State};
 ghost use Rattle.zy_logs.specs.declared.logs.NumberedLine.{NumberedLine as ALine};
-ghost use Rattle.zy_logs.specs.declared.told.Told.{Told as WhatIsTold};
 ghost use Rattle.zy_logs.specs.declared.txns.Txns.{Txns as SomeTxns};
-ghost use Rattle.zy_logs.specs.Agrees.{Tells};
 ghost use Rattle.zy_logs.specs.Logs.{choices_of, logs_of, steps_in};
 ghost use Rattle.zy_logs.specs.Possible.{can_give};
+ghost use Rattle.zy_patterns.specs.declared.patterns.OutcomePattern.{OutcomePattern as APattern};
+ghost use Rattle.zy_patterns.specs.Patterns.{matches};
 
 /// The lines that a text spells name transactions that there are, and count for no more steps than there may be.
 pub fn logs_fit()
@@ -22,6 +22,6 @@ pub fn logs_fit()
 /// Whatever a line says of the outcome of a step, its choice can give. So no line is rejected for an outcome that a step of its
 /// choice has in some scenario and state.
 pub fn steps_are_possible()
-    ensures { (sc : AScenario) → (c : AChoice) → (s : State) → (told : WhatIsTold) → Tells told (step sc c s).outcome
+    ensures { (sc : AScenario) → (c : AChoice) → (s : State) → (told : APattern) → matches told (step sc c s).outcome ≡ true
         → can_give c told ≡ true }
 {}

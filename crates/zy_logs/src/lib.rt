@@ -9,12 +9,10 @@ pub mod logs;
 mod possible;
 pub mod reading;
 mod text;
-pub mod told;
 pub mod txns;
 
 pub use crate::expected::{ExpectedInLog, FaultKind, Misread};
 pub use crate::faults::{LogFault, LogLineFault};
 pub use crate::log_line::{LogLine, Logged};
 pub use crate::logs::NumberedLine;
-pub use crate::told::{LoggedReason, Told};
 pub use crate::txns::Txns;

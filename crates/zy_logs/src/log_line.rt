@@ -1,12 +1,14 @@
 //! A line of a log.
-ghost use Rattle.std.specs.Prelude.{◌≡◌, IfSome, Some};
+ghost use Rattle.std.specs.Prelude.{◌≡◌, IfSome, Some, true};
 ghost use Rattle.std.specs.Bool.{Decides};
-ghost use Rattle.zy_logs.specs.Agrees.{Agrees, Tells};
+ghost use Rattle.zy_logs.specs.Agrees.{Agrees};
 ghost use Rattle.zy_logs.specs.Logs.{steps_of};
+ghost use Rattle.zy_patterns.specs.Patterns.{matches as matches_outcome};
 
-use crate::told::{Told, tells};
 use zy_isa::{Actor, Choice};
 use zy_model::Kind;
+use zy_patterns::OutcomePattern;
+use zy_patterns::patterns::matches;
 use zy_table::{Entry, Outcome};
 
 /// A line of a log: a choice that was made, what was logged of its outcome, if anything was, and the kind of message that was
@@ -16,7 +18,7 @@ pub struct LogLine {
     /// The choice.
     pub choice: Choice,
     /// What was logged of the outcome of its step, if anything was.
-    pub told: Option<Told>,
+    pub told: Option<OutcomePattern>,
     /// The kind of message that its step sent, if it was logged.
     pub sent: Option<Kind>,
 }
@@ -31,11 +33,11 @@ pub enum Logged {
 }
 
 /// Whether an outcome is what was logged, if anything was.
-fn is_outcome(told: Option<Told>, came: Outcome) -> bool
-    ensures { Decides result (IfSome told (λ t. Tells t came)) }
+fn is_outcome(told: Option<OutcomePattern>, came: Outcome) -> bool
+    ensures { Decides result (IfSome told (λ t. matches_outcome t came ≡ true)) }
 {
     match told {
-        Some(told) => tells(told, came),
+        Some(told) => matches(told, came),
         None => true,
     }
 }

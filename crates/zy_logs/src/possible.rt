@@ -2,8 +2,8 @@
 ghost use Rattle.std.specs.Prelude.{◌≡◌};
 ghost use Rattle.zy_logs.specs.Possible as spec;
 
-use crate::told::{LoggedReason, Told};
 use zy_isa::Choice;
+use zy_patterns::{OutcomePattern, ReasonPattern};
 
 /// Whether a migration is started.
 fn is_start(choice: Choice) -> bool
@@ -55,54 +55,54 @@ fn is_push(choice: Choice) -> bool
 }
 
 /// Whether a choice can abort a transaction for this reason.
-fn can_abort(choice: Choice, reason: LoggedReason) -> bool
+fn can_abort(choice: Choice, reason: ReasonPattern) -> bool
     ensures { result ≡ spec.can_abort choice reason }
 {
     match reason {
-        LoggedReason::Killed => is_kill(choice),
-        LoggedReason::Own => is_run(choice),
-        LoggedReason::BadKey => is_run(choice),
-        LoggedReason::Missing => is_run(choice),
-        LoggedReason::Duplicate => is_run(choice),
-        LoggedReason::Frozen(_) => is_run(choice),
-        LoggedReason::NoPage => is_run(choice),
-        LoggedReason::Gone(_) => is_run(choice),
+        ReasonPattern::Killed => is_kill(choice),
+        ReasonPattern::Own => is_run(choice),
+        ReasonPattern::BadKey => is_run(choice),
+        ReasonPattern::Missing => is_run(choice),
+        ReasonPattern::Duplicate => is_run(choice),
+        ReasonPattern::Frozen(_) => is_run(choice),
+        ReasonPattern::NoPage => is_run(choice),
+        ReasonPattern::Gone(_) => is_run(choice),
     }
 }
 
 /// Whether a choice can give the outcome of a line, whatever the state.
-pub(crate) fn can_give(choice: Choice, told: Told) -> bool
+pub(crate) fn can_give(choice: Choice, told: OutcomePattern) -> bool
     ensures { result ≡ spec.can_give choice told }
 {
     match told {
-        Told::Started => is_start(choice),
-        Told::BadMode => is_start(choice) || is_finish(choice) || is_push(choice),
-        Told::Began(_) => is_begin(choice),
-        Told::Idle => is_begin(choice) || is_kill(choice) || is_run(choice),
-        Told::Elsewhere => is_run(choice),
-        Told::NotYet => is_run(choice),
-        Told::Did => is_run(choice),
-        Told::Split { .. } => is_run(choice),
-        Told::Aborted(None) => is_kill(choice) || is_run(choice),
-        Told::Aborted(Some(reason)) => can_abort(choice, reason),
-        Told::Committed(_) => is_run(choice),
-        Told::Waits(_) => is_run(choice),
-        Told::Pulls(_) => is_run(choice),
-        Told::Awaits(_) => is_run(choice),
-        Told::NoMessage => is_take(choice),
-        Told::GotWire => is_take(choice),
-        Told::GotReady => is_take(choice),
-        Told::GotDual => is_take(choice),
-        Told::Stale(_) => is_take(choice),
-        Told::Held(_) => is_take(choice),
-        Told::GotPull(_) => is_take(choice),
-        Told::GotPage(_) => is_take(choice),
-        Told::GotFinish => is_take(choice),
-        Told::GotDone => is_take(choice),
-        Told::Stray => is_take(choice),
-        Told::Finishing => is_finish(choice),
-        Told::Active(_) => is_finish(choice),
-        Told::Pushed(_) => is_push(choice),
-        Told::NoPush => is_push(choice),
+        OutcomePattern::Started => is_start(choice),
+        OutcomePattern::BadMode => is_start(choice) || is_finish(choice) || is_push(choice),
+        OutcomePattern::Began(_) => is_begin(choice),
+        OutcomePattern::Idle => is_begin(choice) || is_kill(choice) || is_run(choice),
+        OutcomePattern::Elsewhere => is_run(choice),
+        OutcomePattern::NotYet => is_run(choice),
+        OutcomePattern::Did => is_run(choice),
+        OutcomePattern::Split { .. } => is_run(choice),
+        OutcomePattern::Aborted(None) => is_kill(choice) || is_run(choice),
+        OutcomePattern::Aborted(Some(reason)) => can_abort(choice, reason),
+        OutcomePattern::Committed(_) => is_run(choice),
+        OutcomePattern::Waits(_) => is_run(choice),
+        OutcomePattern::Pulls(_) => is_run(choice),
+        OutcomePattern::Awaits(_) => is_run(choice),
+        OutcomePattern::NoMessage => is_take(choice),
+        OutcomePattern::GotWire => is_take(choice),
+        OutcomePattern::GotReady => is_take(choice),
+        OutcomePattern::GotDual => is_take(choice),
+        OutcomePattern::Stale(_) => is_take(choice),
+        OutcomePattern::Held(_) => is_take(choice),
+        OutcomePattern::GotPull(_) => is_take(choice),
+        OutcomePattern::GotPage(_) => is_take(choice),
+        OutcomePattern::GotFinish => is_take(choice),
+        OutcomePattern::GotDone => is_take(choice),
+        OutcomePattern::Stray => is_take(choice),
+        OutcomePattern::Finishing => is_finish(choice),
+        OutcomePattern::Active(_) => is_finish(choice),
+        OutcomePattern::Pushed(_) => is_push(choice),
+        OutcomePattern::NoPush => is_push(choice),
     }
 }

@@ -10,7 +10,6 @@ mod choices;
 mod cursor;
 mod outcomes;
 mod parts;
-mod words;
 
 use crate::expected::{ExpectedInLog, Misread};
 use crate::log_line::{LogLine, Logged};
@@ -18,14 +17,14 @@ use crate::possible::can_give;
 use crate::reading::choices::{choice, whose};
 use crate::reading::cursor::{LogCursor, Parsed};
 use crate::reading::outcomes::outcome;
-use crate::reading::words::kind;
-use crate::told::Told;
 use crate::txns::Txns;
 use zy_isa::Choice;
 use zy_model::Kind;
+use zy_patterns::OutcomePattern;
+use zy_patterns::words::kind;
 
 /// The outcome that begins with the word at hand. That word is rejected where no step of the choice gives the outcome.
-fn possible<'a>(txns: Txns<'a>, choice: Choice, at: LogCursor<'a>) -> Parsed<'a, Told>
+fn possible<'a>(txns: Txns<'a>, choice: Choice, at: LogCursor<'a>) -> Parsed<'a, OutcomePattern>
     requires { txns.count ≤ max_txns }
     ensures { read result ≡ spec.possible txns.entry choice (left at.entry) }
 {
@@ -38,7 +37,11 @@ fn possible<'a>(txns: Txns<'a>, choice: Choice, at: LogCursor<'a>) -> Parsed<'a,
 }
 
 /// What was logged of the outcome of a choice, after `->`: nothing, or an outcome.
-fn logged<'a>(txns: Txns<'a>, choice: Choice, at: LogCursor<'a>) -> Parsed<'a, Option<Told>>
+fn logged<'a>(
+    txns: Txns<'a>,
+    choice: Choice,
+    at: LogCursor<'a>,
+) -> Parsed<'a, Option<OutcomePattern>>
     requires { txns.count ≤ max_txns }
     ensures { read result ≡ spec.logged txns.entry choice (left at.entry) }
 {
@@ -50,7 +53,7 @@ fn logged<'a>(txns: Txns<'a>, choice: Choice, at: LogCursor<'a>) -> Parsed<'a, O
 }
 
 /// What was logged of the outcome, after the choice.
-fn told<'a>(txns: Txns<'a>, choice: Choice, at: LogCursor<'a>) -> Parsed<'a, Option<Told>>
+fn told<'a>(txns: Txns<'a>, choice: Choice, at: LogCursor<'a>) -> Parsed<'a, Option<OutcomePattern>>
     requires { txns.count ≤ max_txns }
     ensures { read result ≡ spec.told_of txns.entry choice (left at.entry) }
 {

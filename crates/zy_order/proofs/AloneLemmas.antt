@@ -1,6 +1,7 @@
 -- A line that may be followed alone may be made before the steps of others: what comes of a way that begins by it.
 use Rattle.std.proofs.Common.{true, ◌≡◌, ◌∙◌, ℕ, ◌+◌, ◌<◌, ◌≤◌, ◌⊎◌, inl, inr, List, [], ◌∷◌, ◌++◌, length, refl, sym, ap, subst, arith, drop, length-append, slice_get, Some, Option}
 use Rattle.std.specs.Prelude.{IfSome}
+use Rattle.std.proofs.lemmas.Bool.{false≢true}
 use Rattle.std.proofs.lemmas.Option.{slice_get_within}
 use Rattle.zy_isa.specs.declared.node.Node.{Node}
 use Rattle.zy_isa.specs.declared.node.Node.TheVariants as node
@@ -17,9 +18,10 @@ use Rattle.zy_table.specs.declared.outcome.Outcome.TheVariants.{Did}
 use Rattle.zy_table.specs.State.{State, facing}
 use Rattle.zy_table.specs.Play.{play, step, entries}
 use Rattle.zy_laws.proofs.walk.PlayPush.{play-push}
-use Rattle.zy_logs.specs.Agrees.{Agrees, Tells}
-use Rattle.zy_logs.specs.declared.told.Told.{Told}
-use Rattle.zy_logs.specs.declared.told.Told.TheVariants as told
+use Rattle.zy_patterns.specs.Patterns.{matches}
+use Rattle.zy_logs.specs.Agrees.{Agrees}
+use Rattle.zy_patterns.specs.declared.patterns.OutcomePattern.{OutcomePattern}
+use Rattle.zy_patterns.specs.declared.patterns.OutcomePattern.TheVariants as pattern
 use Rattle.zy_logs.specs.declared.log_line.LogLine.{LogLine}
 use Rattle.zy_steps.specs.Commute.{Does, AreOfOthers}
 use Rattle.zy_steps.proofs.Commuting.{may_come_first, unseen}
@@ -208,12 +210,17 @@ record ComesFirst (sc : Scenario) (n : Node) (s : State) (line : LogLine) : Type
       → play sc (step sc line.choice s).after cs ≡ (step sc line.choice (play sc s cs)).after
   pub unseen : (cs : List Choice) → AreOfOthers n cs → entries sc (step sc line.choice s).after cs ≡ entries sc s cs
 
+-- the outcome of a run that did
+did_came : (o : Outcome) → matches pattern.Did o ≡ true → o ≡ Did
+did_came outcome.Did e = refl
+did_came o e = absurd (false≢true e)
+
 -- a run that did comes first
 module _ (sc : Scenario) (n : Node) (t : ℕ) (s : State) (line : LogLine) (locks : LocksRise (facing n s).me.locks) (run : line.choice ≡ Run n t)
-    (did : line.told ≡ Some told.Did) (agrees : Agrees line (entry_at sc s line.choice)) where
+    (did : line.told ≡ Some pattern.Did) (agrees : Agrees line (entry_at sc s line.choice)) where
   -- what agrees with the line did
   did_by : (e : Entry) → Agrees line e → e.outcome ≡ Did
-  did_by e fits = subst (λ (o : Option Told). IfSome o (λ k. Tells k e.outcome)) did fits.0
+  did_by e fits = did_came e.outcome (subst (λ (o : Option OutcomePattern). IfSome o (λ k. matches k e.outcome ≡ true)) did fits.0)
 
   -- so the run does
   does : Does sc n t s
@@ -233,35 +240,19 @@ module _ (sc : Scenario) (n : Node) (t : ℕ) (s : State) (line : LogLine) (lock
   }
 
 -- an outcome of which nothing comes is still
-nothing_still : (t : Told) (o : Outcome) → is_nothing t ≡ true → Tells t o → is_still o ≡ true
-nothing_still told.Started o e tells = cc e
-nothing_still told.BadMode o e tells = ap is_still tells
-nothing_still (told.Began x) o e tells = cc e
-nothing_still told.Idle o e tells = ap is_still tells
-nothing_still told.Elsewhere o e tells = ap is_still tells
-nothing_still told.NotYet o e tells = ap is_still tells
-nothing_still told.Did o e tells = cc e
-nothing_still (told.Split x y z) o e tells = cc e
-nothing_still (told.Aborted x) o e tells = cc e
-nothing_still (told.Committed x) o e tells = cc e
-nothing_still (told.Waits x) o e tells = ap is_still tells.1
-nothing_still (told.Pulls x) o e tells = cc e
-nothing_still (told.Awaits x) o e tells = ap is_still tells.1
-nothing_still told.NoMessage o e tells = ap is_still tells
-nothing_still told.GotWire o e tells = cc e
-nothing_still told.GotReady o e tells = cc e
-nothing_still told.GotDual o e tells = cc e
-nothing_still (told.Stale x) o e tells = cc e
-nothing_still (told.Held x) o e tells = ap is_still tells.1
-nothing_still (told.GotPull x) o e tells = cc e
-nothing_still (told.GotPage x) o e tells = cc e
-nothing_still told.GotFinish o e tells = cc e
-nothing_still told.GotDone o e tells = cc e
-nothing_still told.Stray o e tells = ap is_still tells
-nothing_still told.Finishing o e tells = cc e
-nothing_still (told.Active x) o e tells = ap is_still tells.1
-nothing_still (told.Pushed x) o e tells = cc e
-nothing_still told.NoPush o e tells = ap is_still tells
+nothing_still : (t : OutcomePattern) (o : Outcome) → is_nothing t ≡ true → matches t o ≡ true → is_still o ≡ true
+nothing_still pattern.BadMode outcome.BadMode e tells = refl
+nothing_still pattern.Idle outcome.Idle e tells = refl
+nothing_still pattern.Elsewhere outcome.Elsewhere e tells = refl
+nothing_still pattern.NotYet outcome.NotYet e tells = refl
+nothing_still (pattern.Waits page) (outcome.Waits p) e tells = refl
+nothing_still (pattern.Awaits page) (outcome.Awaits p) e tells = refl
+nothing_still pattern.NoMessage outcome.NoMessage e tells = refl
+nothing_still (pattern.Held page) (outcome.Held p) e tells = refl
+nothing_still pattern.Stray outcome.Stray e tells = refl
+nothing_still (pattern.Active txn) (outcome.Active t) e tells = refl
+nothing_still pattern.NoPush outcome.NoPush e tells = refl
+nothing_still t o e tells = cc
 
 -- a step of which nothing comes comes first
 module _ (sc : Scenario) (n : Node) (s : State) (line : LogLine) (tells : TellsNothing line) (agrees : Agrees line (entry_at sc s line.choice)) where
@@ -269,7 +260,7 @@ module _ (sc : Scenario) (n : Node) (s : State) (line : LogLine) (tells : TellsN
   stays : (r : State) → Agrees line (entry_at sc r line.choice) → (step sc line.choice r).after ≡ r
   stays r fits =
       still_stays sc line.choice r (nothing_still tells.what (step sc line.choice r).outcome tells.nothing
-      (subst (λ (o : Option Told). IfSome o (λ k. Tells k (step sc line.choice r).outcome)) tells.told fits.0))
+      (subst (λ (o : Option OutcomePattern). IfSome o (λ k. matches k (step sc line.choice r).outcome ≡ true)) tells.told fits.0))
 
   nothing_first : ComesFirst sc n s line
   nothing_first = record {

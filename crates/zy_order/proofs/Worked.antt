@@ -10,8 +10,8 @@ use Rattle.zy_isa.specs.declared.choice.Choice.TheVariants.{Start, Begin, Run, T
 use Rattle.zy_isa.specs.Scenario.{Scenario}
 use Rattle.zy_model.specs.declared.kind.Kind.{Kind}
 use Rattle.zy_model.specs.declared.kind.Kind.TheVariants as kind
-use Rattle.zy_logs.specs.declared.told.Told.{Told}
-use Rattle.zy_logs.specs.declared.told.Told.TheVariants as told
+use Rattle.zy_patterns.specs.declared.patterns.OutcomePattern.{OutcomePattern}
+use Rattle.zy_patterns.specs.declared.patterns.OutcomePattern.TheVariants as pattern
 use Rattle.zy_table.specs.declared.outcome.Outcome.TheVariants as outcome
 use Rattle.zy_table.specs.Change.{txn_at, begun, aborted, did, locked, shares, committed, cut, asks, leaves}
 use Rattle.zy_table.specs.Client.{start_step, begin_at, begin_step}
@@ -36,18 +36,18 @@ one = record { version = One; cap = 4; pages = 1; rule = Held; rows = []; progra
 
 -- the transaction begins at A
 abbrev begins : LogLine
-begins = record { choice = Begin 0; told = Some (told.Began (Some A)); sent = None }
+begins = record { choice = Begin 0; told = Some (pattern.Began (Some A)); sent = None }
 
 -- a run of it at A, of which this came
-abbrev run : Option Told → LogLine
+abbrev run : Option OutcomePattern → LogLine
 run came = record { choice = Run A 0; told = came; sent = None }
 
 -- the lines of A, and then that of the client
 abbrev lines : List LogLine
-lines = run (Some told.Did) ∷ run (Some (told.Committed (Some 1))) ∷ begins ∷ []
+lines = run (Some pattern.Did) ∷ run (Some (pattern.Committed (Some 1))) ∷ begins ∷ []
 
 -- the client's line comes first: they fit
-client_first : Fits one (opening one) (begins ∷ run (Some told.Did) ∷ run (Some (told.Committed (Some 1))) ∷ [])
+client_first : Fits one (opening one) (begins ∷ run (Some pattern.Did) ∷ run (Some (pattern.Committed (Some 1))) ∷ [])
 unfolding table
 client_first = (((A, refl, refl), tt), ((refl, tt), (((1, refl, refl), tt), tt)))
 
@@ -63,7 +63,7 @@ nothing : (n : ℕ) → FillsGap 1 n actor.A []
 nothing n = record { few = omega arith; missing = tt }
 
 -- the lines of A complete themselves where no step may be missing
-whole : Completes 1 actor.A 1 (run (Some told.Did) ∷ []) (0 ∷ 0 ∷ []) (run (Some told.Did) ∷ [])
+whole : Completes 1 actor.A 1 (run (Some pattern.Did) ∷ []) (0 ∷ 0 ∷ []) (run (Some pattern.Did) ∷ [])
 whole = record { filled = []; rest = []; is = refl; gap = nothing 0; goes_on = nothing 0 }
 
 -- a run of which nothing is known may be missing from the log of A
@@ -71,7 +71,7 @@ missing : IsMissing 1 actor.A (run None)
 missing = record { is = refl; actor = refl; named = refl }
 
 -- it stands before the line where one step may be missing there
-filled : Completes 1 actor.A 1 (run (Some told.Did) ∷ []) (1 ∷ 0 ∷ []) (run None ∷ run (Some told.Did) ∷ [])
+filled : Completes 1 actor.A 1 (run (Some pattern.Did) ∷ []) (1 ∷ 0 ∷ []) (run None ∷ run (Some pattern.Did) ∷ [])
 filled = record { filled = run None ∷ []; rest = []; is = refl; gap = record { few = omega arith; missing = (missing, tt) }; goes_on = nothing 0 }
 
 -- it is none of B
@@ -79,8 +79,8 @@ of_b : IsMissing 1 actor.B (run None) → ⊥
 of_b is = let same : actor.A ≡ actor.B = is.actor in absurd (cc same)
 
 -- nor is a line that tells what came
-known : IsMissing 1 actor.A (run (Some told.Did)) → ⊥
-known is = let same : Some told.Did ≡ None = ap (λ (line : LogLine). line.told) is.is in absurd (cc same)
+known : IsMissing 1 actor.A (run (Some pattern.Did)) → ⊥
+known is = let same : Some pattern.Did ≡ None = ap (λ (line : LogLine). line.told) is.is in absurd (cc same)
 
 -- two missing steps do not fill a gap of one
 too_many : FillsGap 1 1 actor.A (run None ∷ run None ∷ []) → ⊥
@@ -102,11 +102,11 @@ begun_first = (((A, refl, refl), tt), ((tt, tt), tt))
 
 -- a migration starts
 abbrev starts : LogLine
-starts = record { choice = Start; told = Some told.Started; sent = Some kind.Wire }
+starts = record { choice = Start; told = Some pattern.Started; sent = Some kind.Wire }
 
 -- B takes the wireframe, and this message was logged, or none
 abbrev takes : Option Kind → LogLine
-takes sent = record { choice = Take B; told = Some told.GotWire; sent = sent }
+takes sent = record { choice = Take B; told = Some pattern.GotWire; sent = sent }
 
 -- it sends ready, as was logged
 sends_ready : Fits one (opening one) (starts ∷ takes (Some kind.Ready) ∷ [])

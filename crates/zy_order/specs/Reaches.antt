@@ -13,8 +13,8 @@ use Rattle.zy_table.specs.State.{State}
 use Rattle.zy_table.specs.Play.{step}
 use Rattle.zy_machine.specs.Histories.{History, IsReplay}
 use Rattle.zy_logs.specs.Agrees.{Agrees}
-use Rattle.zy_logs.specs.declared.told.Told.{Told}
-use Rattle.zy_logs.specs.declared.told.Told.TheVariants as told
+use Rattle.zy_patterns.specs.declared.patterns.OutcomePattern.{OutcomePattern}
+use Rattle.zy_patterns.specs.declared.patterns.OutcomePattern.TheVariants as pattern
 use Rattle.zy_logs.specs.declared.log_line.LogLine.{LogLine}
 use Rattle.zy_search.specs.declared.kinds.ChoiceKinds.{ChoiceKinds}
 use Rattle.zy_search.specs.Choices.{considered}
@@ -146,26 +146,26 @@ pub record TellsDid (line : LogLine) : Type 0 where
   pub node : Node
   pub txn : ℕ
   pub run : line.choice ≡ Run node txn
-  pub did : line.told ≡ Some told.Did
+  pub did : line.told ≡ Some pattern.Did
 
 -- the outcome changes nothing
-abbrev pub is_nothing : Told → Bool
-is_nothing told.BadMode = true
-is_nothing told.Idle = true
-is_nothing told.Elsewhere = true
-is_nothing told.NotYet = true
-is_nothing (told.Waits page) = true
-is_nothing (told.Awaits page) = true
-is_nothing told.NoMessage = true
-is_nothing (told.Held page) = true
-is_nothing told.Stray = true
-is_nothing (told.Active txn) = true
-is_nothing told.NoPush = true
+abbrev pub is_nothing : OutcomePattern → Bool
+is_nothing pattern.BadMode = true
+is_nothing pattern.Idle = true
+is_nothing pattern.Elsewhere = true
+is_nothing pattern.NotYet = true
+is_nothing (pattern.Waits page) = true
+is_nothing (pattern.Awaits page) = true
+is_nothing pattern.NoMessage = true
+is_nothing (pattern.Held page) = true
+is_nothing pattern.Stray = true
+is_nothing (pattern.Active txn) = true
+is_nothing pattern.NoPush = true
 is_nothing t = false
 
 -- a line tells that nothing came of its choice
 pub record TellsNothing (line : LogLine) : Type 0 where
-  pub what : Told
+  pub what : OutcomePattern
   pub told : line.told ≡ Some what
   pub nothing : is_nothing what ≡ true
 

@@ -9,25 +9,29 @@ use crate::line::Met;
 use crate::logs::Logs;
 use crate::search::{Position, Search};
 use zy_isa::{Actor, Choice, Node};
-use zy_logs::{LogLine, Told};
+use zy_logs::LogLine;
 use zy_machine::Fault;
+use zy_patterns::OutcomePattern;
 
 /// Whether a line tells of a `run` that did.
 fn tells_did(line: &LogLine) -> bool
     ensures { result ≡ true → TellsDid line.now }
 {
-    matches!(line.choice, Choice::Run(_, _)) && matches!(line.told, Some(Told::Did))
+    matches!(line.choice, Choice::Run(_, _)) && matches!(line.told, Some(OutcomePattern::Did))
 }
 
 /// Whether an outcome changes nothing.
-fn is_nothing(told: Told) -> bool
+fn is_nothing(told: OutcomePattern) -> bool
     ensures { result ≡ spec.is_nothing told }
 {
     match told {
-        Told::BadMode | Told::Idle | Told::Elsewhere | Told::NotYet => true,
-        Told::Waits(_) | Told::Awaits(_) => true,
-        Told::NoMessage | Told::Held(_) | Told::Stray => true,
-        Told::Active(_) | Told::NoPush => true,
+        OutcomePattern::BadMode
+        | OutcomePattern::Idle
+        | OutcomePattern::Elsewhere
+        | OutcomePattern::NotYet => true,
+        OutcomePattern::Waits(_) | OutcomePattern::Awaits(_) => true,
+        OutcomePattern::NoMessage | OutcomePattern::Held(_) | OutcomePattern::Stray => true,
+        OutcomePattern::Active(_) | OutcomePattern::NoPush => true,
         _ => false,
     }
 }

@@ -4,7 +4,8 @@ ghost use Rattle.zy_order.specs.Reaches.{HasEachActor};
 use crate::cursors::Cursors;
 use crate::logs::Logs;
 use zy_isa::{Actor, Choice};
-use zy_logs::{LogLine, Told};
+use zy_logs::LogLine;
+use zy_patterns::OutcomePattern;
 
 /// The three actors, in the order in which their lines are tried.
 #[derive(Clone, Copy)]
@@ -22,7 +23,7 @@ fn rank(line: &LogLine) -> u8 {
     match line.choice {
         Choice::Begin(_) => 1,
         Choice::Run(_, _) => match line.told {
-            Some(Told::Pulls(_)) => 3,
+            Some(OutcomePattern::Pulls(_)) => 3,
             None => 3,
             _ => 2,
         },

@@ -13,9 +13,9 @@ use Rattle.zy_table.specs.State.{State}
 use Rattle.zy_table.specs.declared.outcome.Outcome.{Outcome}
 use Rattle.zy_laws.specs.SourceFirst.{migration_order}
 use Rattle.zy_outcomes.specs.Accounts.{who_begins, who_commits}
-use Rattle.zy_logs.specs.Agrees.{Tells}
+use Rattle.zy_patterns.specs.Patterns.{matches}
 use Rattle.zy_logs.specs.declared.log_line.LogLine.{LogLine}
-use Rattle.zy_logs.specs.declared.told.Told.{Told}
+use Rattle.zy_patterns.specs.declared.patterns.OutcomePattern.{OutcomePattern}
 use Rattle.zy_threads.specs.Turns.{is_by}
 use Rattle.zy_order.specs.declared.gaps.Gaps.{Gaps}
 use Rattle.zy_order.specs.Gaps.{Completes, gap_count, gaps_of}
@@ -67,7 +67,7 @@ log_tells x (line ∷ lines) h =
 module _ (who : Choice → Outcome → List ℕ) (by : Choice → Sort → List ℕ) (is : (c : Choice) (o : Outcome) → who c o ≡ by c (sort_of o))
     (x : Actor) (only : (c : Choice) (o : Outcome) → is_by x c ≡ false → who c o ≡ []) where
   -- whom a choice names with what is told of it
-  abbrev named : Choice → Option Told → List ℕ
+  abbrev named : Choice → Option OutcomePattern → List ℕ
   named c None = []
   named c (Some t) = by c (sort_told t)
 
@@ -77,7 +77,7 @@ module _ (who : Choice → Outcome → List ℕ) (by : Choice → Sort → List 
   all_named (line ∷ lines) = named line.choice line.told ++ all_named lines
 
   -- the line that tells an outcome names whom its entry does
-  line_names : (c : Choice) (o : Outcome) (t : Option Told) → IfSome t (λ y. Tells y o) → is_some t ≡ true → who c o ≡ named c t
+  line_names : (c : Choice) (o : Outcome) (t : Option OutcomePattern) → IfSome t (λ y. matches y o ≡ true) → is_some t ≡ true → who c o ≡ named c t
   line_names c o None h tells = absurd (false≢true tells)
   line_names c o (Some t) h tells = is c o ∙ ap (by c) (tells_sort t o h)
 

@@ -1,5 +1,5 @@
 -- A line that tells its outcome tells who begins and who commits by it.
-use Rattle.std.proofs.Common.{◌≡◌, ℕ, List, [], ◌∷◌, ap, false, refl, sym}
+use Rattle.std.proofs.Common.{◌≡◌, ℕ, List, [], ◌∷◌, ap, false, true, refl, sym}
 use Rattle.std.specs.Prelude.{if◌then◌else◌}
 use Rattle.std.proofs.lemmas.Bool.{false≢true}
 use Rattle.zy_isa.specs.Choices.{actor_at}
@@ -12,9 +12,9 @@ use Rattle.zy_table.specs.Run.{same_node}
 use Rattle.zy_table.specs.declared.outcome.Outcome.{Outcome}
 use Rattle.zy_table.specs.declared.outcome.Outcome.TheVariants as outcome
 use Rattle.zy_outcomes.specs.Accounts.{who_begins, who_commits}
-use Rattle.zy_logs.specs.Agrees.{Tells}
-use Rattle.zy_logs.specs.declared.told.Told.{Told}
-use Rattle.zy_logs.specs.declared.told.Told.TheVariants as told
+use Rattle.zy_patterns.specs.Patterns.{matches}
+use Rattle.zy_patterns.specs.declared.patterns.OutcomePattern.{OutcomePattern}
+use Rattle.zy_patterns.specs.declared.patterns.OutcomePattern.TheVariants as pattern
 use Rattle.zy_threads.specs.Turns.{is_by}
 
 -- a begin, a commit, or neither
@@ -30,41 +30,42 @@ sort_of (outcome.Committed i) = Commits
 sort_of o = Neither
 
 -- the sort of what a line tells
-abbrev pub sort_told : Told → Sort
-sort_told (told.Began n) = Begins
-sort_told (told.Committed i) = Commits
+abbrev pub sort_told : OutcomePattern → Sort
+sort_told (pattern.Began n) = Begins
+sort_told (pattern.Committed i) = Commits
 sort_told t = Neither
 
 -- they are the same
-pub tells_sort : (t : Told) (o : Outcome) → Tells t o → sort_of o ≡ sort_told t
-tells_sort told.Started o h = ap sort_of h
-tells_sort told.BadMode o h = ap sort_of h
-tells_sort (told.Began n) o h = ap sort_of h.1
-tells_sort told.Idle o h = ap sort_of h
-tells_sort told.Elsewhere o h = ap sort_of h
-tells_sort told.NotYet o h = ap sort_of h
-tells_sort told.Did o h = ap sort_of h
-tells_sort (told.Split p q k) o h = ap sort_of h.3
-tells_sort (told.Aborted r) o h = ap sort_of h.1
-tells_sort (told.Committed i) o h = ap sort_of h.1
-tells_sort (told.Waits p) o h = ap sort_of h.1
-tells_sort (told.Pulls p) o h = ap sort_of h.1
-tells_sort (told.Awaits p) o h = ap sort_of h.1
-tells_sort told.NoMessage o h = ap sort_of h
-tells_sort told.GotWire o h = ap sort_of h
-tells_sort told.GotReady o h = ap sort_of h
-tells_sort told.GotDual o h = ap sort_of h
-tells_sort (told.Stale p) o h = ap sort_of h.1
-tells_sort (told.Held p) o h = ap sort_of h.1
-tells_sort (told.GotPull p) o h = ap sort_of h.1
-tells_sort (told.GotPage p) o h = ap sort_of h.1
-tells_sort told.GotFinish o h = ap sort_of h
-tells_sort told.GotDone o h = ap sort_of h
-tells_sort told.Stray o h = ap sort_of h
-tells_sort told.Finishing o h = ap sort_of h
-tells_sort (told.Active t) o h = ap sort_of h.1
-tells_sort (told.Pushed p) o h = ap sort_of h.1
-tells_sort told.NoPush o h = ap sort_of h
+pub tells_sort : (t : OutcomePattern) (o : Outcome) → matches t o ≡ true → sort_of o ≡ sort_told t
+tells_sort pattern.Started outcome.Started e = refl
+tells_sort pattern.BadMode outcome.BadMode e = refl
+tells_sort (pattern.Began node) (outcome.Began n) e = refl
+tells_sort pattern.Idle outcome.Idle e = refl
+tells_sort pattern.Elsewhere outcome.Elsewhere e = refl
+tells_sort pattern.NotYet outcome.NotYet e = refl
+tells_sort pattern.Did outcome.Did e = refl
+tells_sort (pattern.Split page new_page boundary) (outcome.Split p q k) e = refl
+tells_sort (pattern.Aborted reason) (outcome.Aborted w) e = refl
+tells_sort (pattern.Committed place) (outcome.Committed i) e = refl
+tells_sort (pattern.Waits page) (outcome.Waits p) e = refl
+tells_sort (pattern.Pulls page) (outcome.Pulls p) e = refl
+tells_sort (pattern.Awaits page) (outcome.Awaits p) e = refl
+tells_sort pattern.NoMessage outcome.NoMessage e = refl
+tells_sort pattern.GotWire outcome.GotWire e = refl
+tells_sort pattern.GotReady outcome.GotReady e = refl
+tells_sort pattern.GotDual outcome.GotDual e = refl
+tells_sort (pattern.Stale page) (outcome.Stale p) e = refl
+tells_sort (pattern.Held page) (outcome.Held p) e = refl
+tells_sort (pattern.GotPull page) (outcome.GotPull p) e = refl
+tells_sort (pattern.GotPage page) (outcome.GotPage p) e = refl
+tells_sort pattern.GotFinish outcome.GotFinish e = refl
+tells_sort pattern.GotDone outcome.GotDone e = refl
+tells_sort pattern.Stray outcome.Stray e = refl
+tells_sort pattern.Finishing outcome.Finishing e = refl
+tells_sort (pattern.Active txn) (outcome.Active t) e = refl
+tells_sort (pattern.Pushed page) (outcome.Pushed p) e = refl
+tells_sort pattern.NoPush outcome.NoPush e = refl
+tells_sort t o e = absurd (false≢true e)
 
 -- who begins by a choice, by the sort of its outcome
 abbrev pub begins_by : Choice → Sort → List ℕ

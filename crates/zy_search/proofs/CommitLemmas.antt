@@ -14,7 +14,7 @@ use Rattle.zy_machine.specs.Histories.{History, IsReplay, choices_of}
 use Rattle.zy_serial.specs.Lone.{map_of}
 use Rattle.zy_serial.specs.SameMaps.{same_map, is_serial}
 use Rattle.zy_search.specs.declared.sought.Sought.{Sought}
-use Rattle.zy_goals.specs.declared.outcomes.OutcomePattern.{OutcomePattern}
+use Rattle.zy_patterns.specs.declared.patterns.OutcomePattern.{OutcomePattern}
 use Rattle.zy_goals.specs.Goals.{meets}
 use Rattle.zy_goals.specs.Commits.{is_of_commits}
 use Rattle.zy_goals.proofs.CommitLemmas.{same_goal}

@@ -24,8 +24,8 @@ use Rattle.zy_goals.specs.declared.goal.Selector.TheVariants as selector
 use Rattle.zy_goals.specs.declared.goal.TxnProperty.TheVariants as property
 use Rattle.zy_goals.specs.declared.goal.Fact.TheVariants.{Differs}
 use Rattle.zy_goals.specs.declared.goal.Goal.{Goal, Is}
-use Rattle.zy_goals.specs.declared.outcomes.OutcomePattern.{OutcomePattern}
-use Rattle.zy_goals.specs.Outcomes.{matches}
+use Rattle.zy_patterns.specs.declared.patterns.OutcomePattern.{OutcomePattern}
+use Rattle.zy_patterns.specs.Patterns.{matches}
 use Rattle.zy_goals.specs.Txns.{selected_have}
 use Rattle.zy_goals.specs.Goals.{Context, meets}
 use Rattle.zy_search.specs.Choices.{considered}

@@ -5,8 +5,8 @@ use Rattle.zy_isa.specs.declared.choice.Choice.{Choice}
 use Rattle.zy_isa.specs.Scenario.{Scenario}
 use Rattle.zy_table.specs.State.{State}
 use Rattle.zy_table.specs.Play.{step}
-use Rattle.zy_goals.specs.declared.outcomes.OutcomePattern.{OutcomePattern}
-use Rattle.zy_goals.specs.Outcomes.{matches}
+use Rattle.zy_patterns.specs.declared.patterns.OutcomePattern.{OutcomePattern}
+use Rattle.zy_patterns.specs.Patterns.{matches}
 use Rattle.zy_search.specs.Choices.{considered}
 use Rattle.zy_search.specs.declared.kinds.ChoiceKinds.{ChoiceKinds}
 

@@ -12,7 +12,7 @@ use Rattle.zy_serial.specs.SameMaps.{is_serial}
 use Rattle.zy_search.specs.declared.sought.Sought.{Sought}
 use Rattle.zy_search.specs.declared.answer.SearchAnswer.{SearchAnswer}
 use Rattle.zy_search.specs.declared.answer.SearchAnswer.TheVariants as answer
-use Rattle.zy_goals.specs.declared.outcomes.OutcomePattern.{OutcomePattern}
+use Rattle.zy_patterns.specs.declared.patterns.OutcomePattern.{OutcomePattern}
 use Rattle.zy_goals.specs.Goals.{Context, meets}
 use Rattle.zy_goals.specs.Commits.{takes_steps, is_of_commits}
 use Rattle.zy_search.specs.Stuck.{AreMoves, is_stuck}

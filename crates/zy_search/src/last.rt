@@ -10,9 +10,9 @@ use crate::answer::SearchAnswer;
 use crate::plan::Plan;
 use crate::possible::first_giving;
 use std::alloc::AllocError;
-use zy_goals::OutcomePattern;
 use zy_isa::Choice;
 use zy_machine::{Fault, Machine};
+use zy_patterns::OutcomePattern;
 
 /// Makes some choices.
 fn run_along(machine: &mut Machine, path: &[Choice]) -> Result<(), Fault>

@@ -11,7 +11,7 @@ ghost use Rattle.zy_table.specs.State.{State};
 ghost use Rattle.zy_search.specs.declared.sought.Sought.{Sought};
 ghost use Rattle.zy_goals.specs.declared.goal.Fact.TheVariants.{Differs};
 ghost use Rattle.zy_goals.specs.declared.goal.Goal.{Is};
-ghost use Rattle.zy_goals.specs.declared.outcomes.OutcomePattern.{OutcomePattern as APattern};
+ghost use Rattle.zy_patterns.specs.declared.patterns.OutcomePattern.{OutcomePattern as APattern};
 ghost use Rattle.zy_goals.specs.Facts.{is_over};
 ghost use Rattle.zy_goals.specs.Goals.{meets};
 ghost use Rattle.zy_search.specs.Possible.{gives};

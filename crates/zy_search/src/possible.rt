@@ -10,10 +10,10 @@ ghost use Rattle.zy_search.specs.Possible as spec;
 
 use crate::kinds::ChoiceKinds;
 use std::alloc::Global;
-use zy_goals::OutcomePattern;
-use zy_goals::outcomes::matches;
 use zy_isa::Choice;
 use zy_machine::{Fault, Machine};
+use zy_patterns::OutcomePattern;
+use zy_patterns::patterns::matches;
 
 /// Whether a choice has an outcome like `wanted`. It is tried on another machine.
 fn gives(

@@ -16,9 +16,10 @@ use crate::stuck::is_stuck;
 use std::alloc::Global;
 use zy_goals::commits::is_of_commits;
 use zy_goals::facts::holds_in;
-use zy_goals::{Fact, Goal, OutcomePattern};
+use zy_goals::{Fact, Goal};
 use zy_isa::Choice;
 use zy_machine::{Fault, Machine};
+use zy_patterns::OutcomePattern;
 use zy_serial::serial::same;
 
 /// Whether a fact holds in a machine's state. The considered choices are tried on another machine.

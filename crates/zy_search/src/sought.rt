@@ -4,10 +4,11 @@ ghost use Rattle.zy_search.specs.Searches as spec;
 ghost use Rattle.zy_search.specs.Visits as visits;
 
 use crate::kinds::ChoiceKinds;
+use zy_goals::Goal;
 use zy_goals::commits::takes_steps;
 use zy_goals::ended::reads_ended;
-use zy_goals::{Goal, OutcomePattern};
 use zy_isa::MAX_CHOICES;
+use zy_patterns::OutcomePattern;
 use zy_steps::StatePart;
 
 /// What is looked for, and by which choices.

@@ -1,20 +1,21 @@
 //! Reads facts.
 ghost use Rattle.std.specs.Prelude.{◌≡◌};
-ghost use Rattle.zy_goals.specs.Words.{after};
+ghost use Rattle.zy_goals.specs.Words.{after, made};
 ghost use Rattle.zy_goals.specs.Cursors.{left, read};
 ghost use Rattle.zy_goals.specs.Phrases as spec;
+ghost use Rattle.zy_goals.specs.declared.goal.Fact.TheVariants as facts;
 
-use crate::goal::{
-    AbortReason, Fact, LinkContent, MessagePattern, PagePlace, Selector, StateFact, TxnProperty,
-};
+use crate::goal::{Fact, LinkContent, MessagePattern, PagePlace, Selector, StateFact, TxnProperty};
 use crate::names::Names;
 use crate::reading::cursor::GoalCursor;
 use crate::reading::numbers::{key, selector, txn};
+use crate::reading::outcomes::reason_or_none;
 use crate::reading::terms::comparison;
 use crate::reading::{Parsed, words};
 use crate::refusal::ExpectedInGoal;
 use zy_isa::Node;
 use zy_model::Kind;
+use zy_patterns::words::{kind, node};
 use zy_text::names::is_numeral;
 
 /// What comes after `mode`: a node and a mode.
@@ -22,7 +23,7 @@ use zy_text::names::is_numeral;
 fn mode<'a>(at: GoalCursor<'a>) -> Parsed<'a, StateFact>
     ensures { read result ≡ spec.mode (left at.entry) }
 {
-    let (node, at) = at.gives(words::node(at.word()), ExpectedInGoal::Node)?;
+    let (node, at) = at.gives(node(at.word()), ExpectedInGoal::Node)?;
     let (mode, at) = at.gives(words::mode(at.word()), ExpectedInGoal::Mode)?;
     Ok((StateFact::Mode(node, mode), at))
 }
@@ -62,18 +63,6 @@ fn page<'a>(at: GoalCursor<'a>) -> Parsed<'a, StateFact>
     of_page(page, at)
 }
 
-/// The reason that may come after `aborted`: any reason, where none does.
-#[tactic(auto, unfolding(crate::specs::Phrases::reason_of))]
-pub fn reason<'a>(at: GoalCursor<'a>) -> (AbortReason, GoalCursor<'a>)
-    ensures reason { result.0 ≡ (spec.reason_of (left at.entry)).0 }
-    ensures rest { left result.1 ≡ (spec.reason_of (left at.entry)).1 }
-{
-    match words::reason(at.word()) {
-        Some(reason) => (reason, at.next()),
-        None => (AbortReason::Any, at),
-    }
-}
-
 /// What may come after `txn T committed`: `before` and a transaction.
 #[tactic(auto, unfolding(crate::specs::Phrases::committed))]
 fn committed<'a>(names: Names<'a>, selector: Selector, at: GoalCursor<'a>) -> Parsed<'a, StateFact>
@@ -106,7 +95,7 @@ fn locks<'a>(selector: Selector, locks: GoalCursor<'a>) -> Parsed<'a, StateFact>
 fn aborted<'a>(selector: Selector, at: GoalCursor<'a>) -> Parsed<'a, StateFact>
     ensures { read result ≡ spec.aborted selector (left at.entry) }
 {
-    let (reason, at) = reason(at);
+    let (reason, at) = reason_or_none(at)?;
     Ok((StateFact::Txns(selector, TxnProperty::Aborted(reason)), at))
 }
 
@@ -114,7 +103,7 @@ fn aborted<'a>(selector: Selector, at: GoalCursor<'a>) -> Parsed<'a, StateFact>
 fn at_node<'a>(selector: Selector, at: GoalCursor<'a>) -> Parsed<'a, StateFact>
     ensures { read result ≡ spec.at_node selector (left at.entry) }
 {
-    let (node, at) = at.gives(words::node(at.word()), ExpectedInGoal::Node)?;
+    let (node, at) = at.gives(node(at.word()), ExpectedInGoal::Node)?;
     Ok((StateFact::Txns(selector, TxnProperty::At(node)), at))
 }
 
@@ -193,7 +182,7 @@ fn numbered<'a>(kind: Kind, at: GoalCursor<'a>) -> Parsed<'a, MessagePattern>
 fn message<'a>(at: GoalCursor<'a>) -> Parsed<'a, MessagePattern>
     ensures { read result ≡ spec.message (left at.entry) }
 {
-    let (kind, at) = at.gives(words::kind(at.word()), ExpectedInGoal::LinkContent)?;
+    let (kind, at) = at.gives(kind(at.word()), ExpectedInGoal::LinkContent)?;
     numbered(kind, at)
 }
 
@@ -246,6 +235,14 @@ fn state_fact<'a>(names: Names<'a>, at: GoalCursor<'a>) -> Parsed<'a, StateFact>
     }
 }
 
+/// A fact of the state of several words, as a fact.
+fn fact_of_state<'a>(names: Names<'a>, at: GoalCursor<'a>) -> Parsed<'a, Fact>
+    ensures { read result ≡ made facts.OfState (spec.state_fact_of names.entry (left at.entry)) }
+{
+    let (state_fact, at) = state_fact(names, at)?;
+    Ok((Fact::OfState(state_fact), at))
+}
+
 /// The fact that begins with the word at hand.
 #[tactic(auto, unfolding(crate::specs::Phrases::fact_of))]
 pub fn fact<'a>(names: Names<'a>, at: GoalCursor<'a>) -> Parsed<'a, Fact>
@@ -254,6 +251,9 @@ pub fn fact<'a>(names: Names<'a>, at: GoalCursor<'a>) -> Parsed<'a, Fact>
     if let Some(fact) = words::lone_fact(at.word()) {
         return Ok((fact, at.next()));
     }
-    let (state_fact, at) = state_fact(names, at)?;
-    Ok((Fact::OfState(state_fact), at))
+    let (reason, next) = reason_or_none(at)?;
+    match reason {
+        Some(reason) => Ok((words::aborted(Some(reason)), next)),
+        None => fact_of_state(names, at),
+    }
 }

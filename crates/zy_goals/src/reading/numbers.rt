@@ -18,6 +18,9 @@ const MAX_NUMBER: u64 = 9999999999;
 /// The greatest key, and the greatest number of a page that can be named.
 const MAX_KEY: u64 = 65535;
 
+/// The greatest place in commit order.
+const MAX_PLACE: u64 = 64;
+
 /// The number that a word is, where it is not above `most`.
 #[tactic(auto, unfolding(crate::specs::Vocabulary::number_to))]
 fn number_to(most: u64, word: &[u8]) -> Option<u64>
@@ -63,8 +66,32 @@ pub fn key<'a>(at: GoalCursor<'a>) -> Parsed<'a, u16>
     at.gives(key_of(at.word()), ExpectedInGoal::Number(MAX_KEY))
 }
 
+/// The place in commit order that a word is.
+#[tactic(auto, unfolding(crate::specs::Vocabulary::number_to))]
+fn place_of(word: &[u8]) -> Option<u8>
+    ensures { result ≡ spec.place_in_order word.now }
+{
+    match number_of(word) {
+        Some(number) => {
+            if number <= MAX_PLACE {
+                Some(number as u8)
+            } else {
+                None
+            }
+        }
+        None => None,
+    }
+}
+
+/// The place in commit order that the word is.
+pub fn place<'a>(at: GoalCursor<'a>) -> Parsed<'a, u8>
+    ensures { read result ≡ one spec.place_in_order (left at.entry) }
+{
+    at.gives(place_of(at.word()), ExpectedInGoal::Number(MAX_PLACE))
+}
+
 /// Whether a word has the form of a transaction's name. `any` and `all` stand for several transactions.
-fn is_txn_name(word: &[u8]) -> bool
+pub fn is_txn_name(word: &[u8]) -> bool
     ensures { result ≡ spec.is_name word.now }
 {
     is_name(word) && !is(word, b"any") && !is(word, b"all")

@@ -7,10 +7,10 @@ ghost use Rattle.zy_logs.specs.Parts.{or_none};
 
 use crate::expected::ExpectedInLog;
 use crate::reading::cursor::{LogCursor, Parsed};
-use crate::reading::words::{lone_reason, node};
-use crate::told::LoggedReason;
 use crate::txns::Txns;
 use zy_isa::Node;
+use zy_patterns::ReasonPattern;
+use zy_patterns::words::{lone_reason, node};
 use zy_text::names::{is_name, is_numeral};
 use zy_text::numbers::number_of;
 
@@ -122,22 +122,22 @@ pub fn node_or_none<'a>(at: LogCursor<'a>) -> Parsed<'a, Option<Node>>
 }
 
 /// The reason of an abort.
-fn reason<'a>(at: LogCursor<'a>) -> Parsed<'a, LoggedReason>
+fn reason<'a>(at: LogCursor<'a>) -> Parsed<'a, ReasonPattern>
     ensures { read result ≡ spec.reason (left at.entry) }
 {
     if at.is_at(b"frozen") {
         let (page, at) = page_or_none(at.next())?;
-        Ok((LoggedReason::Frozen(page), at))
+        Ok((ReasonPattern::Frozen(page), at))
     } else if at.is_at(b"gone") {
         let (page, at) = page_or_none(at.next())?;
-        Ok((LoggedReason::Gone(page), at))
+        Ok((ReasonPattern::Gone(page), at))
     } else {
         at.gives(lone_reason(at.word()), ExpectedInLog::Reason)
     }
 }
 
 /// The reason of an abort, if it is there.
-pub fn reason_or_none<'a>(at: LogCursor<'a>) -> Parsed<'a, Option<LoggedReason>>
+pub fn reason_or_none<'a>(at: LogCursor<'a>) -> Parsed<'a, Option<ReasonPattern>>
     ensures { read result ≡ or_none spec.reason (left at.entry) }
 {
     if at.ends_outcome() {

@@ -1,0 +1,3 @@
+pub mod Patterns
+pub mod Paged
+pub mod Vocabulary
