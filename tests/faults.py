@@ -610,7 +610,7 @@ SCRIPT_FAULTS = [
     script('store: --rule of try ignored', 'examples/store/try', 'options.rule or RULES[number % 2]', 'RULES[number % 2]', 'store'),
 ]
 
-COMMAND_LINE, WORDS = 'zy_cli/src/request.rt', 'zy_goals/src/reading/words.rt'
+COMMAND_LINE, WORDS = 'zy_cli/src/request.rt', 'zy_queries/src/reading/words.rt'
 OUTCOME_WORDS = 'zy_patterns/src/words.rt'
 
 NO_FLAG = 'with no flag other copies'
@@ -655,11 +655,11 @@ PROGRAM_FAULTS = [
     program(3, 'a fault below a file is said to be a line too far', 'zy_report/src/advised.rt',
             'position.line.saturating_sub(lines)', 'position.line.saturating_sub(lines) + 1', 'endless', 'files'),
     program(4, 'of a run that did nothing the transactions are not named', 'zy_report/src/nothing.rt', 'if *is_one {', 'if *is_one && number == 64 {', 'did nothing', 'nothing'),
-    program(3, 'a name in a goal stands for the transaction after it', 'zy_goals/src/names.rt',
+    program(3, 'a name in a goal stands for the transaction after it', 'zy_queries/src/names.rt',
             'Some(number as u8)', 'Some((number as u8).saturating_add(1))', '; with numbers ', 'searches'),
     program(4, 'a goal names a transaction of none, and has those below 0', 'zy_bench/src/answering.rt', '0 => f.write_str("none")', '65 => f.write_str("none")',
             '^no transaction: ', 'searches'),
-    program(7, '--always takes then behind a fact', 'zy_goals/src/reading.rt', 'ExpectedInGoal::OperatorAlone)', 'ExpectedInGoal::Operator)', '^stuck stuck: ', 'searches'),
+    program(7, '--always takes then behind a fact', 'zy_queries/src/reading.rt', 'ExpectedInGoal::OperatorAlone)', 'ExpectedInGoal::Operator)', '^stuck stuck: ', 'searches'),
     program(1, '--from takes 1 and more', 'zy_cli/src/hint.rt', 'least: 0,', 'least: 1,', '^mistake: search --from ', 'run'),
     program(5, 'a gap is of no log', 'zy_diagnostics/src/unended.rt', 'is(line.text(1), b"...")', 'is(line.text(2), b"...")', '^mistake: order: ', 'run'),
     program(6, 'an object is of no log', 'zy_diagnostics/src/unended.rt', 'starts_with(b"{")', 'starts_with(b"{{")', '^mistake: order --json: ', 'run'),

@@ -186,7 +186,7 @@ def texts_in(path):
 
 def is_named(kind, word, path):
     """Whether a text of a file names an example, by itself or in a list. In the crate of goals each text with the word of a fact does."""
-    count = 1 if kind is KINDS['fact'] and path.startswith('crates/zy_goals/') else kind.count
+    count = 1 if kind is KINDS['fact'] and path.startswith(('crates/zy_goals/', 'crates/zy_queries/')) else kind.count
     for text in texts_in(path) if kind.form and word in content(path) else ():
         found = set(WORD.findall(text)) if word in text else ()
         if found and re.fullmatch(kind.form.replace('%s', word), text) or word in found and len(words_of(kind) & found) >= count:

@@ -8,7 +8,7 @@ ghost use Rattle.zy_threads.specs.Orders.{reordered};
 ghost use Rattle.zy_threads.specs.Turns.{IsMerge};
 ghost use Rattle.zy_engine.specs.Again.{RunsAgain};
 
-/// A text that is UTF-8 and means a scenario has no fault. So no command rejects it, unless there is no memory.
+/// A text that is UTF-8 and means a scenario has no fault.
 pub fn meant_is_accepted()
     ensures { (text : List ℕ) (sc : Scenario) → utf8_fault text ≡ None → Means text sc → input_fault text ≡ None }
 {}

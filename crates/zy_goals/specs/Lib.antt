@@ -4,9 +4,3 @@ pub mod Facts
 pub mod Goals
 pub mod Commits
 pub mod Ended
-pub mod Words
-pub mod Vocabulary
-pub mod Phrases
-pub mod Cursors
-pub mod Grammar
-pub mod Expressions

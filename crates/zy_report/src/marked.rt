@@ -3,7 +3,7 @@
 use std::fmt;
 use zy_diagnostics::line::SourceWord;
 use zy_diagnostics::place::MarkedWord;
-use zy_goals::WordFault;
+use zy_queries::WordFault;
 
 /// A goal that is rejected, and the word that does not fit.
 #[derive(Clone, Copy)]

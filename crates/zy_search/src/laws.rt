@@ -86,8 +86,8 @@ pub fn deadlock_is_cycle()
         → is_deadlocked sc s ≡ true }
 {}
 
-/// A state that choices lead to is `over` if and only if its migration has ended as the laws say: no transaction is active,
-/// and nothing is left of the migration at the node that is empty.
+/// A state that choices lead to is `over` if and only if it is between two migrations, or before the first one: no
+/// transaction is active, one node is normal, and nothing is left of a migration at the other one, which is empty.
 pub fn over_leaves_nothing()
     ensures only { (sc : AScenario) → IsScenario sc → (cs : List AChoice)
         → let s = play sc (opening sc) cs in is_over s ≡ true → Over s }

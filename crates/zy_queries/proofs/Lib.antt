@@ -1,0 +1,4 @@
+pub mod WordLemmas
+pub mod ReadLemmas
+pub mod QueryLemmas
+pub mod Worked
