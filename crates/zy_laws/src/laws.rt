@@ -43,7 +43,7 @@ pub fn room_at_commit()
         → HasRoomAtCommit sc (play sc (opening sc) choices) }
 {}
 
-/// Pages rise by number, locks by page and then transaction, rows by key, and there are as many low keys as pages.
+/// Pages rise by number, locks by page and then transaction, rows by key; the longer wireframe has a low key for each page.
 pub fn lists_in_order()
     ensures { (sc : Scenario) → IsScenario sc → (choices : List AChoice)
         → InOrder (play sc (opening sc) choices) }

@@ -15,6 +15,7 @@ use Rattle.zy_model.specs.Order.{LocksRise}
 use Rattle.zy_table.specs.declared.entry.Entry.{Entry}
 use Rattle.zy_table.specs.declared.outcome.Outcome.{Outcome}
 use Rattle.zy_table.specs.declared.outcome.Outcome.TheVariants.{Did}
+use Rattle.zy_table.specs.declared.outcome.Outcome.TheVariants as outcome
 use Rattle.zy_table.specs.State.{State, facing}
 use Rattle.zy_table.specs.Play.{play, step, entries}
 use Rattle.zy_laws.proofs.walk.PlayPush.{play-push}

@@ -1,5 +1,6 @@
 -- Worked logs: which orders of their lines fit, computed.
 use Rattle.std.proofs.Common.{◌≡◌, ℕ, List, [], ◌∷◌, Option, None, Some, refl, ap, arith}
+use Rattle.std.proofs.lemmas.Bool.{false≢true}
 use Rattle.zy_isa.specs.declared.version.Version.TheVariants.{One}
 use Rattle.zy_isa.specs.declared.node.Node.TheVariants.{A, B}
 use Rattle.zy_isa.specs.declared.node.Actor.TheVariants as actor
@@ -10,9 +11,9 @@ use Rattle.zy_isa.specs.declared.choice.Choice.TheVariants.{Start, Begin, Run, T
 use Rattle.zy_isa.specs.Scenario.{Scenario}
 use Rattle.zy_model.specs.declared.kind.Kind.{Kind}
 use Rattle.zy_model.specs.declared.kind.Kind.TheVariants as kind
+use Rattle.zy_patterns.specs.Patterns.{matches}
 use Rattle.zy_patterns.specs.declared.patterns.OutcomePattern.{OutcomePattern}
 use Rattle.zy_patterns.specs.declared.patterns.OutcomePattern.TheVariants as pattern
-use Rattle.zy_table.specs.declared.outcome.Outcome.TheVariants as outcome
 use Rattle.zy_table.specs.Change.{txn_at, begun, aborted, did, locked, shares, committed, cut, asks, leaves}
 use Rattle.zy_table.specs.Client.{start_step, begin_at, begin_step}
 use Rattle.zy_table.specs.Run.{set_step, commit_or_gone, commit_step, effect_step, instr_step, run_step}
@@ -49,12 +50,12 @@ lines = run (Some pattern.Did) ∷ run (Some (pattern.Committed (Some 1))) ∷ b
 -- the client's line comes first: they fit
 client_first : Fits one (opening one) (begins ∷ run (Some pattern.Did) ∷ run (Some (pattern.Committed (Some 1))) ∷ [])
 unfolding table
-client_first = (((A, refl, refl), tt), ((refl, tt), (((1, refl, refl), tt), tt)))
+client_first = ((refl, tt), ((refl, tt), ((refl, tt), tt)))
 
 -- the lines as they stand do not fit: the transaction has not begun, and the run is idle
 client_last : Fits one (opening one) lines → ⊥
 unfolding table
-client_last fits = let idle : outcome.Idle ≡ outcome.Did = fits.0.0 in absurd (cc idle)
+client_last fits = absurd (false≢true fits.0.0)
 
 -- ---- gaps
 
@@ -91,12 +92,12 @@ too_many gap = absurd (omega (arith, gap.few))
 -- a run without an outcome fits where the transaction has not begun
 idle_first : Fits one (opening one) (run None ∷ begins ∷ [])
 unfolding table
-idle_first = ((tt, tt), (((A, refl, refl), tt), tt))
+idle_first = ((tt, tt), ((refl, tt), tt))
 
 -- and where it has
 begun_first : Fits one (opening one) (begins ∷ run None ∷ [])
 unfolding table
-begun_first = (((A, refl, refl), tt), ((tt, tt), tt))
+begun_first = ((refl, tt), ((tt, tt), tt))
 
 -- ---- a message
 

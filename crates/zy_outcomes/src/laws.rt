@@ -85,7 +85,7 @@ pub fn commit_number()
         → let x = step sc choice s in IsNumbered x.outcome x.after.commits }
 {}
 
-/// Each page that a node asked for is on its way: its pull to the other node, or the page itself back. At most one pull
+/// Each page that a node has asked for and not received is on its way: its pull there, or the page back. At most one pull
 /// of it is on the link at a time.
 pub fn on_its_way()
     ensures { (sc : Scenario) → IsScenario sc → (choices : List AChoice) (n : Node)

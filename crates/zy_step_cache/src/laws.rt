@@ -14,8 +14,8 @@ ghost use Rattle.zy_table.specs.declared.outcome.Outcome.{Outcome};
 ghost use Rattle.zy_table.specs.Play.{step};
 ghost use Rattle.zy_table.specs.State.{State};
 
-/// A step that happened happens again from each state whose numbers its choice reads alike: what it wrote leads to the
-/// numbers of the state after the step, and it has the outcome that it had, but for the number of a commit.
+/// A step that happened happens again from each state, with a transaction for each program, whose numbers its choice reads
+/// alike: what it wrote leads to the numbers of the state after it, with the outcome that it had, but for a commit's number.
 pub fn a_step_happens_again()
     ensures numbers { (sc : Scenario) (part : StatePart) (table : List (List ℕ)) (c : AChoice) (k : AScope)
         (read : ARead) (written : List ℕ) (o : Outcome) → Happened sc table part c k read written o → (t : State) (now : List ℕ)

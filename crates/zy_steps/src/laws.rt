@@ -33,9 +33,9 @@ pub fn a_run_can_be_taken_back()
         → taken_back t (facing n s) (facing n (step sc (Run n t) s).after) ≡ facing n s }
 {}
 
-/// From two views of a node that agree in what a choice reads the same comes of it. The other node, what waits in the
-/// links, the other transactions and the commits count for nothing; but a commit's number is its place among the commits,
-/// and is left out.
+/// From two views of a node with equally many transactions that agree in what a choice reads (`Agree`) the same comes of
+/// it, and nothing else of them counts. A commit's number is left out, since it is the commit's place among the commits of
+/// the view.
 pub fn a_step_reads_its_parts()
     ensures { (sc : Scenario) (choice : AChoice) (v w : View) → length v.txns ≡ length w.txns → Agree choice v w
         → SameMove choice v w (move sc choice v) (move sc choice w) }
@@ -73,14 +73,14 @@ pub fn alike_steps()
         → Alike part (step sc c s).after (step sc c t).after }
 {}
 
-/// A `run` whose outcome is `did`, here and behind choices of the client and of the other node, may be made before them.
+/// With locks in order, a `run` that did, here and behind choices of the client and of the other node, may come before them.
 pub fn a_run_may_come_first()
     ensures { (sc : Scenario) (n : Node) (t : ℕ) (s : State) (choices : List AChoice) → Does sc n t s → AreOfOthers n choices
         → (step sc (Run n t) (play sc s choices)).outcome ≡ Did → MayComeFirst sc s (Run n t) choices }
 {}
 
-/// A `run` whose outcome is `did` changes nothing that the client and the other node see: their choices have the same
-/// outcomes and kinds of message after it, also where one of them kills its transaction.
+/// With locks in order, a `run` whose outcome is `did` changes nothing that the client and the other node see: their
+/// choices have the same outcomes and kinds of message after it, also where one of them kills its transaction.
 pub fn a_run_is_unseen()
     ensures { (sc : Scenario) (n : Node) (t : ℕ) (s : State) (choices : List AChoice) → Does sc n t s → AreOfOthers n choices
         → entries sc (step sc (Run n t) s).after choices ≡ entries sc s choices }
