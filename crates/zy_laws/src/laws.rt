@@ -43,7 +43,7 @@ pub fn room_at_commit()
         → HasRoomAtCommit sc (play sc (opening sc) choices) }
 {}
 
-/// Pages rise by number, locks by page and then transaction, rows by key; the longer wireframe has a low key for each page.
+/// At each node pages rise by number, locks by page, then transaction, rows by key; the longer wireframe has each low key.
 pub fn lists_in_order()
     ensures { (sc : Scenario) → IsScenario sc → (choices : List AChoice)
         → InOrder (play sc (opening sc) choices) }
@@ -227,8 +227,8 @@ pub fn node_order()
         → let s = play sc (opening sc) choices in at_node n s (migration_order sc choices) ≡ commits_at n s }
 {}
 
-/// In version 1, under both rules, database and registers are those of the committed transactions, run one by one: first
-/// all that committed at A and then all that committed at B, each in commit order. The state alone gives this order.
+/// In version 1, under both rules, database and registers are those of the committed transactions, each run for as many
+/// instructions as it did: first all that committed at A, then all at B, in commit order. The state alone gives this order.
 pub fn a_first()
     ensures { (sc : Scenario) → IsScenario sc → sc.version ≡ One → (choices : List AChoice)
         → let s = play sc (opening sc) choices in SerialIn (commits_at A s ++ commits_at B s) sc s }
