@@ -74,8 +74,8 @@ pub fn pages_travel()
         → let s = play sc (opening sc) choices in Travels p (side_of sc choice s) s (step sc choice s) }
 {}
 
-/// At most one node is in a source's mode (SInit, SDual or SFinish), and so, with `pages_travel`, pages leave one node
-/// alone.
+/// At most one node is in a source's mode (SInit, SDual or SFinish), and so, with `pages_travel`, at each point pages leave
+/// one node alone.
 pub fn one_source()
     ensures { (sc : Scenario) (choices : List AChoice) (n : Node)
         → let s = play sc (opening sc) choices in
