@@ -84,7 +84,8 @@ impl LineBuffer {
         ensures bytes { self.new ≡ (if is_ok result then self.old ++ bytes.now else self.old) }
     {
         self.bytes.reserve(bytes.len())?;
-        self.bytes = with_all(taken(&mut self.bytes), bytes);
+        let longer = with_all(taken(&mut self.bytes), bytes);
+        put_back(&mut self.bytes, longer);
         Ok(())
     }
 
@@ -95,7 +96,8 @@ impl LineBuffer {
         ensures bytes { self.new ≡ (if is_ok result then self.old ++ P.text piece else self.old) }
     {
         self.bytes.reserve(LONGEST)?;
-        self.bytes = piece.put_behind(taken(&mut self.bytes));
+        let longer = piece.put_behind(taken(&mut self.bytes));
+        put_back(&mut self.bytes, longer);
         Ok(())
     }
 }
@@ -110,4 +112,12 @@ fn taken(bytes: &mut Vec<u8>) -> Vec<u8>
 {
     let none = Vec::new(*bytes.allocator());
     mem::replace(bytes, none)
+}
+
+/// Puts bytes where `taken` left none. What it left there has no memory, so it is not dropped, which would be a test and a call.
+#[inline(always)]
+fn put_back(place: &mut Vec<u8>, bytes: Vec<u8>)
+    ensures { place.new ≡ bytes }
+{
+    mem::forget(mem::replace(place, bytes));
 }
