@@ -10,7 +10,7 @@ ghost use Rattle.zy_order.specs.Answers.{IsInput, MatchesAll, MatchesPrefixes};
 ghost use Rattle.zy_order_engine.specs.Runs.{extended, RunsOrder, RunsPrefix};
 
 /// The scenario with the choices of an order behind its own is a scenario. Its run makes the same steps, and behind them one
-/// for each line of the order and each missing step; whatever a line tells is what comes of its step.
+/// for each line of the order and each missing step. Each step agrees with what its line tells.
 pub fn found_runs()
     ensures tested { (sc : AScenario) (lines : List ALine) (gaps : SomeGaps) (cs : List AChoice) → IsScenario sc
         → IsInput (history_of None sc) lines gaps → MatchesAll (history_of None sc) lines gaps cs → IsScenario (extended sc cs) }

@@ -1,4 +1,4 @@
-//! Runs that are made again, to show what is said of them.
+//! Repeats a run for a message about it.
 
 use crate::listing::LineKept;
 use std::alloc::Global;

@@ -12,8 +12,8 @@ fn mixed(digest: u64, number: u64) -> u64 {
     (digest.rotate_left(5) ^ number).wrapping_mul(0x517c_c1b7_2722_0a95)
 }
 
-/// A number that is the same for the same states, and differs for most others. Nothing is promised of it: a bad one costs
-/// time alone.
+/// Equal states have equal digests, and most different states have different ones. No contract promises this: a bad
+/// digest costs only time.
 pub fn digest(machine: &Machine) -> u64 {
     let modes = mixed(
         mode_number(machine.mode(Node::A)),
