@@ -251,12 +251,24 @@ def transactions(read):
     return [named for part in read[1] if isinstance(part, tuple) for named in transactions(part)]
 
 
+def pages_behind(words, before):
+    """The numbers of the pages among some words: each behind one of these words."""
+    return [int(word) for last, word in zip(words, words[1:]) if last in before and word.isdigit()]
+
+
+def pages_of_outcome(words):
+    """The numbers of the pages that an outcome names: of a split the page and the new one, and not its boundary."""
+    if words[0] == 'split':
+        return [int(word) for word in words[1:3]]
+    return pages_behind(words, ('page', 'pull', 'frozen', 'gone', 'waits', 'pulls', 'awaits', 'stale', 'held', 'pushed'))
+
+
 def numbers_named(read):
-    """The numbers of the transactions, and of the pages, that a goal names before `then`."""
-    read = read[0], [part for part in read[1] if part[0] != 'OUTCOME']
-    words = flat(read[1])
+    """The numbers of the transactions, and of the pages, that a goal names."""
+    outcomes = [flat([part]) for part in read[1] if part[0] == 'OUTCOME']
+    tests = flat([part for part in read[1] if part[0] != 'OUTCOME'])
     return ([int(word) for word, _ in transactions(read) if word.isdigit()],
-            [int(word) for before, word in zip(words, words[1:]) if before in ('page', 'pull', 'locks', 'frozen', 'gone') and word.isdigit()])
+            pages_behind(tests, ('page', 'pull', 'locks', 'frozen', 'gone')) + [page for words in outcomes for page in pages_of_outcome(words)])
 
 
 def reads_ended(read):

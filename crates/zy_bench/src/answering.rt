@@ -275,7 +275,7 @@ fn warned<R: Eprint + AllocGlobal>(
     scenario: &[u8],
     sought: Sought,
 ) -> Result<Sought, BenchFault> {
-    match warn(rt, format, scenario, named_by(&sought.goal)) {
+    match warn(rt, format, scenario, named_by(&sought.goal, sought.then)) {
         Ok(()) => Ok(sought),
         Err(fault) => {
             drop(sought);

@@ -1,9 +1,9 @@
-//! The transactions and pages that a goal names. A warning is made of them: nothing is proved of what they are.
+//! The transactions and pages that a goal names. A warning is made of them; no contract says which they are.
 
 use crate::goal::{
     Fact, Goal, LinkContent, MessagePattern, Selector, StateFact, Term, TxnProperty,
 };
-use zy_patterns::ReasonPattern;
+use zy_patterns::{OutcomePattern, ReasonPattern};
 
 /// How many transactions and pages a scenario must have for a goal to name no others; 0 where it names none.
 #[derive(Clone, Copy)]
@@ -108,13 +108,50 @@ fn named_by_pattern(pattern: MessagePattern) -> Named {
     }
 }
 
-/// What a goal names.
-pub fn named_by(goal: &Goal) -> Named {
+/// What an outcome names. The boundary of a split is a key, and a place in commit order is no transaction.
+fn named_by_outcome(outcome: OutcomePattern) -> Named {
+    match outcome {
+        OutcomePattern::Waits(Some(p))
+        | OutcomePattern::Pulls(Some(p))
+        | OutcomePattern::Awaits(Some(p))
+        | OutcomePattern::Stale(Some(p))
+        | OutcomePattern::Held(Some(p))
+        | OutcomePattern::GotPull(Some(p))
+        | OutcomePattern::GotPage(Some(p))
+        | OutcomePattern::Pushed(Some(p)) => Named::page(p),
+        OutcomePattern::Split { page, new_page, .. } => {
+            named_by_page(page).and(named_by_page(new_page))
+        }
+        OutcomePattern::Aborted(Some(reason)) => named_by_reason(reason),
+        OutcomePattern::Active(Some(t)) => Named::txn(t),
+        _ => Named::nothing(),
+    }
+}
+
+/// What a page that may be left out names.
+fn named_by_page(page: Option<u16>) -> Named {
+    match page {
+        Some(p) => Named::page(p),
+        None => Named::nothing(),
+    }
+}
+
+/// What the tests of a goal name.
+fn named_by_goal(goal: &Goal) -> Named {
     match goal {
         Goal::Is(Fact::OfState(fact)) => named_by_fact(*fact),
         Goal::Is(_) => Named::nothing(),
-        Goal::Not(g) => named_by(g),
-        Goal::And(g, h) => named_by(g).and(named_by(h)),
-        Goal::Or(g, h) => named_by(g).and(named_by(h)),
+        Goal::Not(g) => named_by_goal(g),
+        Goal::And(g, h) => named_by_goal(g).and(named_by_goal(h)),
+        Goal::Or(g, h) => named_by_goal(g).and(named_by_goal(h)),
+    }
+}
+
+/// What a goal names, and the outcome after its `then`.
+pub fn named_by(goal: &Goal, then: Option<OutcomePattern>) -> Named {
+    let named = named_by_goal(goal);
+    match then {
+        Some(outcome) => named.and(named_by_outcome(outcome)),
+        None => named,
     }
 }
