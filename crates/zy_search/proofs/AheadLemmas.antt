@@ -7,8 +7,8 @@ use Rattle.std.specs.List.{All}
 use Rattle.zy_isa.specs.declared.choice.Choice.{Choice}
 use Rattle.zy_isa.specs.declared.choice.Choice.TheVariants.{Start}
 use Rattle.zy_steps.specs.Alike.{part_of, Alike}
-use Rattle.zy_step_cache.specs.declared.memory.Memory.{Memory}
-use Rattle.zy_step_cache.specs.Memories.{Numbers}
+use Rattle.zy_step_cache.specs.declared.step_cache.StepCache.{StepCache}
+use Rattle.zy_step_cache.specs.StepCaches.{Numbers}
 use Rattle.zy_step_cache.proofs.ExploredLemmas.{numbers_stay}
 use Rattle.zy_state_ids.proofs.PartLemmas.{alike_by_numbers}
 use Rattle.zy_table.specs.State.{State, Step}
@@ -31,12 +31,12 @@ use Rattle.zy_search.proofs.StillSteps.{still_stays}
 pub stays : (x : Reached) → GoesOn x x
 stays x = record { paths = grows_not x.tree; parts = λ i part h. h; part = refl }
 
--- there are paths more, and the memory is as it was
-pub adds : (x y : Reached) → Grows x.tree y.tree → y.explored.memory ≡ x.explored.memory → GoesOn x y
-adds x y grows memory = record {
+-- there are paths more, and the cache is as it was
+pub adds : (x y : Reached) → Grows x.tree y.tree → y.explored.cache ≡ x.explored.cache → GoesOn x y
+adds x y grows cache = record {
   paths = grows;
-  parts = λ i part e. subst (λ (m : Memory). slice_get m.table i ≡ Some part) (sym memory) e;
-  part = ap (λ (m : Memory). m.part) memory;
+  parts = λ i part e. subst (λ (m : StepCache). slice_get m.table i ≡ Some part) (sym cache) e;
+  part = ap (λ (m : StepCache). m.part) cache;
 }
 
 -- a search goes on, and then further
@@ -69,8 +69,8 @@ module _ (p : Plan) (old new : Reached) (on : GoesOn old new) where
   -- the numbers of the state of a path are its numbers
   pub numbers_on : (at : ℕ) → at < length old.tree → (numbers : List ℕ) → AreNumbersAt p old at numbers → AreNumbersAt p new at numbers
   numbers_on at lt numbers is =
-      subst (λ (cs : List Choice). Numbers new.explored.memory (reached p.start cs) numbers) (sym (on.paths.same at lt))
-      (numbers_stay old.explored.memory new.explored.memory (reached p.start (path_at old.tree at)) numbers on.parts on.part is)
+      subst (λ (cs : List Choice). Numbers new.explored.cache (reached p.start cs) numbers) (sym (on.paths.same at lt))
+      (numbers_stay old.explored.cache new.explored.cache (reached p.start (path_at old.tree at)) numbers on.parts on.part is)
 
   -- so does where a choice leads
   successor_on : (arena : List (List ℕ)) (b : Branch) → b.from < length old.tree → (x : Successor) → IsSuccessor p old arena b x
@@ -81,8 +81,8 @@ module _ (p : Plan) (old new : Reached) (on : GoesOn old new) where
   successor_on arena b lt (successor.Numbered j) is = record {
     there = is.there;
     moved = ap (λ (x : Step). is_still x.outcome) (step_on b lt) ∙ is.moved;
-    numbers = subst (λ (s : State). Numbers new.explored.memory s (numbers_at arena j)) (sym (ap (λ (x : Step). x.after) (step_on b lt)))
-        (numbers_stay old.explored.memory new.explored.memory (state_by p old.tree b) (numbers_at arena j) on.parts on.part is.numbers);
+    numbers = subst (λ (s : State). Numbers new.explored.cache s (numbers_at arena j)) (sym (ap (λ (x : Step). x.after) (step_on b lt)))
+        (numbers_stay old.explored.cache new.explored.cache (state_by p old.tree b) (numbers_at arena j) on.parts on.part is.numbers);
   }
 
   -- so does where each leads from a state
@@ -96,7 +96,7 @@ module _ (p : Plan) (old new : Reached) (on : GoesOn old new) where
   taken_on : (arena : List (List ℕ)) (j : ℕ) → IsTaken p old arena j → IsTaken p new arena j
   taken_on arena j is = record {
     state = is.state;
-    numbers = numbers_stay old.explored.memory new.explored.memory is.state (numbers_at arena j) on.parts on.part is.numbers;
+    numbers = numbers_stay old.explored.cache new.explored.cache is.state (numbers_at arena j) on.parts on.part is.numbers;
     known = known_on is.state is.known;
   }
 
@@ -112,7 +112,7 @@ module _ (p : Plan) (old new : Reached) (on : GoesOn old new) where
       → IsTaken p new arena j
   noted_is_taken arena b j is notes = record {
     state = state_by p old.tree b;
-    numbers = numbers_stay old.explored.memory new.explored.memory (state_by p old.tree b) (numbers_at arena j) on.parts on.part is.numbers;
+    numbers = numbers_stay old.explored.cache new.explored.cache (state_by p old.tree b) (numbers_at arena j) on.parts on.part is.numbers;
     known = (notes.known.0, notes.known.1, notes.known.3);
   }
 
@@ -124,8 +124,8 @@ module _ (p : Plan) (old new : Reached) (on : GoesOn old new) where
 pub taken_known : (p : Plan) (x : Reached) → IsInformed p x → (arena : List (List ℕ)) (b : Branch) (j : ℕ) → HasNumbers p x arena b j → IsTaken p x arena j
     → IsKnown p.start p.sought x.tree (state_by p x.tree b)
 taken_known p x informed arena b j is taken =
-    let memory = x.explored.memory in
-    let same = alike_by_numbers memory.table memory.part (numbers_at arena j) taken.state (state_by p x.tree b) taken.numbers is.numbers in (
+    let cache = x.explored.cache in
+    let same = alike_by_numbers cache.table cache.part (numbers_at arena j) taken.state (state_by p x.tree b) taken.numbers is.numbers in (
       taken.known.0,
       taken.known.1,
       taken.known.2 ∙ subst (λ part. Alike part taken.state (state_by p x.tree b)) informed.part same,
@@ -140,7 +140,7 @@ module _ (p : Plan) (x : Reached) (old new : List (List ℕ)) (grows : Grows old
   successor_grown b (successor.Numbered j) is = record {
     there = omega (arith, is.there, grows.longer);
     moved = is.moved;
-    numbers = subst (Numbers x.explored.memory (state_by p x.tree b)) (sym (grows.same j is.there)) is.numbers;
+    numbers = subst (Numbers x.explored.cache (state_by p x.tree b)) (sym (grows.same j is.there)) is.numbers;
   }
 
   -- and where each leads from a state

@@ -12,9 +12,9 @@ use Rattle.zy_table.specs.declared.outcome.Outcome.TheVariants.{Finishing, Activ
 use Rattle.zy_machine.specs.Histories.{History}
 use Rattle.zy_steps.specs.Alike.{Alike}
 use Rattle.zy_steps.specs.Reads.{uncounted}
-use Rattle.zy_step_cache.specs.declared.memo.ChoiceMemo.{ChoiceMemo}
-use Rattle.zy_step_cache.specs.declared.memo.Remembered.{Remembered}
-use Rattle.zy_step_cache.specs.Memories.{choice_at, choices_of, numbers_by, IsTrue, Knows, Leads, Numbers}
+use Rattle.zy_step_cache.specs.declared.choice_cache.ChoiceCache.{ChoiceCache}
+use Rattle.zy_step_cache.specs.declared.choice_cache.CachedStep.{CachedStep}
+use Rattle.zy_step_cache.specs.StepCaches.{choice_at, choices_of, numbers_by, IsTrue, Knows, Leads, Numbers}
 use Rattle.zy_step_cache.specs.Rests.{is_idle}
 use Rattle.zy_step_cache.proofs.Again.{many_after}
 use Rattle.zy_search.specs.declared.branch.Branch.{Branch}
@@ -96,14 +96,14 @@ idle_still o e = cc
 
 module _ (p : Plan) (x : Reached) (is : IsInformed p x) where
   -- a remembered choice is that of the plan
-  pub remembered_choice : (i : ℕ) (c : Choice) → IsNumber p i c → choice_at x.explored.memory i ≡ c
+  pub remembered_choice : (i : ℕ) (c : Choice) → IsNumber p i c → choice_at x.explored.cache i ≡ c
   remembered_choice i c n = ap (λ (cs : List Choice). slice_index_or cs i Start) is.choices ∙ n.choice
 
   -- and there
-  pub remembered_there : (i : ℕ) (c : Choice) → IsNumber p i c → i < length x.explored.memory.memos.items
+  pub remembered_there : (i : ℕ) (c : Choice) → IsNumber p i c → i < length x.explored.cache.caches.items
   remembered_there i c n =
-      let memos = x.explored.memory.memos.items in
-      omega (arith, n.there, ap (λ (cs : List Choice). length cs) is.choices, length-map memos (λ (m : ChoiceMemo). m.choice))
+      let caches = x.explored.cache.caches.items in
+      omega (arith, n.there, ap (λ (cs : List Choice). length cs) is.choices, length-map caches (λ (m : ChoiceCache). m.choice))
 
   -- there are as many transactions as programs after a step
   pub many_by : (b : Branch) → b.from < length x.tree → length (state_by p x.tree b).txns ≡ length p.start.scenario.programs
@@ -113,7 +113,7 @@ module _ (p : Plan) (x : Reached) (is : IsInformed p x) where
 
   -- a state that has the numbers of one of the states is known
   pub known_by : (i : ℕ) (t : State) → i < length (states_of p.start x.tree)
-      → ((s : State) → slice_get (states_of p.start x.tree) i ≡ Some s → Alike x.explored.memory.part s t)
+      → ((s : State) → slice_get (states_of p.start x.tree) i ≡ Some s → Alike x.explored.cache.part s t)
       → IsKnown p.start p.sought x.tree t
   known_by i t lt alike =
       let there : i < length x.tree = omega (arith, lt, as_many p.start x.tree) in (
@@ -128,45 +128,45 @@ module _ (p : Plan) (x : Reached) (is : IsInformed p x) where
       → AreNumbersAt p x i numbers
   numbers_there i lt numbers at =
       let s = reached p.start (path_at x.tree i) in
-      subst (Numbers x.explored.memory s) (sym at) (is.knows.each i s (state_at p.start x.tree i lt)).0
+      subst (Numbers x.explored.cache s) (sym at) (is.knows.each i s (state_at p.start x.tree i lt)).0
 
   -- where a remembered step leads, if its numbers were taken where something came of it
-  pub remembered_leads : (b : Branch) → b.from < length x.tree → (i : ℕ) → IsNumber p i b.by → (r : Remembered) → (numbers next : List ℕ)
+  pub remembered_leads : (b : Branch) → b.from < length x.tree → (i : ℕ) → IsNumber p i b.by → (r : CachedStep) → (numbers next : List ℕ)
       → AreNumbersAt p x b.from numbers
-      → (is_still r.outcome ≡ false → next ≡ numbers_by x.explored.memory i r numbers)
-      → ((sc : Scenario) (s : State) → IsTrue sc x.explored.memory → Numbers x.explored.memory s numbers → length s.txns ≡ length sc.programs
-      → Leads sc x.explored.memory (choice_at x.explored.memory i) s (numbers_by x.explored.memory i r numbers) r.outcome)
+      → (is_still r.outcome ≡ false → next ≡ numbers_by x.explored.cache i r numbers)
+      → ((sc : Scenario) (s : State) → IsTrue sc x.explored.cache → Numbers x.explored.cache s numbers → length s.txns ≡ length sc.programs
+      → Leads sc x.explored.cache (choice_at x.explored.cache i) s (numbers_by x.explored.cache i r numbers) r.outcome)
       → LeadsTo p x b next r.outcome
   remembered_leads b lt i n r numbers next here taken recalled =
       let s = reached p.start (path_at x.tree b.from) in
       let many = (is.knows.each b.from s (state_at p.start x.tree b.from lt)).1 in
       let led = recalled p.start.scenario s is.knows.truth here many in
-      let to = numbers_by x.explored.memory i r numbers in
-      let leads = subst (λ (c : Choice). Leads p.start.scenario x.explored.memory c s to r.outcome) (remembered_choice i b.by n) led in
+      let to = numbers_by x.explored.cache i r numbers in
+      let leads = subst (λ (c : Choice). Leads p.start.scenario x.explored.cache c s to r.outcome) (remembered_choice i b.by n) led in
       record {
         still = still_alike r.outcome _ leads.1;
-        numbers = λ moved. subst (Numbers x.explored.memory (state_by p x.tree b)) (sym (taken moved)) leads.0;
+        numbers = λ moved. subst (Numbers x.explored.cache (state_by p x.tree b)) (sym (taken moved)) leads.0;
         informed = is;
       }
 
 -- one state more is known
 pub informed_more : (p : Plan) (old new : Reached) (b : Branch) → b.from < length old.tree
-    → new.tree ≡ old.tree ++ (path_at old.tree b.from ++ b.by ∷ []) ∷ [] → new.explored.memory ≡ old.explored.memory
+    → new.tree ≡ old.tree ++ (path_at old.tree b.from ++ b.by ∷ []) ∷ [] → new.explored.cache ≡ old.explored.cache
     → (Knows p.start.scenario old.explored (states_of p.start old.tree) → length (state_by p old.tree b).txns ≡ length p.start.scenario.programs
     → Knows p.start.scenario new.explored (states_of p.start old.tree ++ state_by p old.tree b ∷ []))
     → IsInformed p old → IsInformed p new
-informed_more p old new b lt paths memory knows is =
+informed_more p old new b lt paths cache knows is =
     let cs = path_at old.tree b.from in
     let more = states_more p.start old.tree (cs ++ b.by ∷ []) ∙ ap (λ (s : State). states_of p.start old.tree ++ s ∷ []) (reached_more p.start cs b.by) in
     record {
       knows = subst (Knows p.start.scenario new.explored) (sym (ap (states_of p.start) paths ∙ more)) (knows is.knows (many_by p old is b lt));
-      part = ap (λ m. m.part) memory ∙ is.part;
-      choices = ap choices_of memory ∙ is.choices;
+      part = ap (λ m. m.part) cache ∙ is.part;
+      choices = ap choices_of cache ∙ is.choices;
     }
 
 -- the same paths, with what was known of their states and steps that were remembered since
 pub informed_still : (p : Plan) (old new : Reached) → new.tree ≡ old.tree → Knows p.start.scenario new.explored (states_of p.start old.tree)
-    → new.explored.memory.part ≡ old.explored.memory.part → choices_of new.explored.memory ≡ choices_of old.explored.memory
+    → new.explored.cache.part ≡ old.explored.cache.part → choices_of new.explored.cache ≡ choices_of old.explored.cache
     → IsInformed p old → IsInformed p new
 informed_still p old new tree knows part choices is = record {
   knows = subst (λ (ps : List (List Choice)). Knows p.start.scenario new.explored (states_of p.start ps)) (sym tree) knows;

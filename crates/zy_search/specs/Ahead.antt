@@ -2,7 +2,7 @@
 use Rattle.std.specs.Prelude.{ℕ, ◌≡◌, ◌<◌, List, [], false, length, slice_index_or}
 use Rattle.std.specs.List.{All}
 use Rattle.zy_isa.specs.declared.choice.Choice.{Choice}
-use Rattle.zy_step_cache.specs.Memories.{Numbers}
+use Rattle.zy_step_cache.specs.StepCaches.{Numbers}
 use Rattle.zy_state_ids.specs.Parts.{Keeps}
 use Rattle.zy_table.specs.State.{State}
 use Rattle.zy_search.specs.declared.ahead.Ahead.{Ahead}
@@ -24,7 +24,7 @@ numbers_at arena j = slice_index_or arena j []
 pub record HasNumbers (p : Plan) (x : Reached) (arena : List (List ℕ)) (b : Branch) (j : ℕ) : Type 0 where
   pub there : j < length arena
   pub moved : is_still (step_by p x.tree b).outcome ≡ false
-  pub numbers : Numbers x.explored.memory (state_by p x.tree b) (numbers_at arena j)
+  pub numbers : Numbers x.explored.cache (state_by p x.tree b) (numbers_at arena j)
 
 -- what is known of where the choice of a branch leads
 abbrev pub IsSuccessor : Plan → Reached → List (List ℕ) → Branch → Successor → Type 0
@@ -44,7 +44,7 @@ pub record AreSuccessors (p : Plan) (x : Reached) (arena : List (List ℕ)) (kno
 -- a state with the numbers at a place of an arena was reached
 pub record IsTaken (p : Plan) (x : Reached) (arena : List (List ℕ)) (j : ℕ) : Type 0 where
   pub state : State
-  pub numbers : Numbers x.explored.memory state (numbers_at arena j)
+  pub numbers : Numbers x.explored.cache state (numbers_at arena j)
   pub known : IsKnown p.start p.sought x.tree state
 
 -- what is known ahead of the states at some places
@@ -60,5 +60,5 @@ pub record IsOutlook (p : Plan) (x : Reached) (o : Outlook) : Type 0 where
 -- what was reached is there at its place, and numbers stand for the parts that they stood for
 pub record GoesOn (old new : Reached) : Type 0 where
   pub paths : Grows old.tree new.tree
-  pub parts : Keeps old.explored.memory.table new.explored.memory.table
-  pub part : new.explored.memory.part ≡ old.explored.memory.part
+  pub parts : Keeps old.explored.cache.table new.explored.cache.table
+  pub part : new.explored.cache.part ≡ old.explored.cache.part

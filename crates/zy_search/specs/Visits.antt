@@ -14,7 +14,7 @@ use Rattle.zy_steps.specs.declared.part.StatePart.{StatePart}
 use Rattle.zy_steps.specs.declared.part.StatePart.TheVariants.{Whole, Live}
 use Rattle.zy_steps.specs.Alike.{Alike}
 use Rattle.zy_goals.specs.Ended.{reads_ended}
-use Rattle.zy_step_cache.specs.Memories.{choices_of, Knows, Numbers}
+use Rattle.zy_step_cache.specs.StepCaches.{choices_of, Knows, Numbers}
 use Rattle.zy_search.specs.declared.sought.Sought.{Sought}
 use Rattle.zy_search.specs.declared.plan.Plan.{Plan}
 use Rattle.zy_search.specs.declared.branch.Branch.{Branch}
@@ -135,17 +135,17 @@ state_by p paths b = (step_by p paths b).after
 -- the numbers of the states that the paths lead to are known, of what counts of them, and only steps that happened are remembered
 pub record IsInformed (p : Plan) (x : Reached) : Type 0 where
   pub knows : Knows p.start.scenario x.explored (states_of p.start x.tree)
-  pub part : x.explored.memory.part ≡ counted p.sought
-  pub choices : choices_of x.explored.memory ≡ p.choices.items
+  pub part : x.explored.cache.part ≡ counted p.sought
+  pub choices : choices_of x.explored.cache ≡ p.choices.items
 
 -- these are the numbers of the state of the path at a place
 abbrev pub AreNumbersAt : Plan → Reached → ℕ → List ℕ → Type 0
-AreNumbersAt p x at numbers = Numbers x.explored.memory (reached p.start (path_at x.tree at)) numbers
+AreNumbersAt p x at numbers = Numbers x.explored.cache (reached p.start (path_at x.tree at)) numbers
 
 -- what comes of the choice of a branch is known, and the numbers of the state that it leads to where something does
 pub record LeadsTo (p : Plan) (x : Reached) (b : Branch) (next : List ℕ) (o : Outcome) : Type 0 where
   pub still : is_still o ≡ is_still (step_by p x.tree b).outcome
-  pub numbers : is_still o ≡ false → Numbers x.explored.memory (state_by p x.tree b) next
+  pub numbers : is_still o ≡ false → Numbers x.explored.cache (state_by p x.tree b) next
   pub informed : IsInformed p x
 
 -- ---- the machines

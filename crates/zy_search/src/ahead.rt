@@ -54,7 +54,7 @@ pub(crate) fn rests(plan: &Plan, reached: &Reached, branch: Branch, here: &[u32]
     requires here { AreNumbersAt plan.now reached.now branch.from here.now }
     ensures { result ≡ true → is_still (step_by plan.now reached.now.tree branch).outcome ≡ true }
 {
-    reached.explored.memory.rests(branch.by, here)
+    reached.explored.cache.rests(branch.by, here)
 }
 
 /// What comes of the choice of a branch, if a step like it is remembered. Where something does, the numbers of the state
@@ -72,15 +72,15 @@ pub(crate) fn recall(
     ensures leads { IfOk result (λ o. IfSome o (LeadsTo plan.now reached.now turn.branch numbers.new.next.items)) }
     ensures here { numbers.new.here ≡ numbers.old.here }
 {
-    let memory = &reached.explored.memory;
+    let cache = &reached.explored.cache;
     let here = numbers.here.as_slice();
-    let Some(step) = memory.recall(turn.choice, here) else {
+    let Some(step) = cache.recall(turn.choice, here) else {
         return Ok(None);
     };
     if is_still(step.outcome) {
         return Ok(Some(step.outcome));
     }
-    memory.follow(turn.choice, step, here, &mut numbers.next)?;
+    cache.follow(turn.choice, step, here, &mut numbers.next)?;
     Ok(Some(step.outcome))
 }
 

@@ -2,7 +2,7 @@
 ghost use Rattle.std.specs.Prelude.{◌≡◌, ◌<◌, ◌+◌, ◌++◌, ◌∷◌, [], IfOk, OnOk, true, false, length};
 ghost use Rattle.std.specs.Bool.{Decides};
 ghost use Rattle.zy_isa.specs.declared.choice.Choice.{Choice as AChoice};
-ghost use Rattle.zy_step_cache.specs.Memories.{Numbers};
+ghost use Rattle.zy_step_cache.specs.StepCaches.{Numbers};
 ghost use Rattle.zy_search.specs.Ahead.{GoesOn, IsForeseen, HasNumbers};
 ghost use Rattle.zy_search.specs.Searches.{Shows};
 ghost use Rattle.zy_search.specs.Stuck as stuck;
@@ -122,7 +122,7 @@ fn shows_next(
     next: &[u32],
 ) -> Result<bool, Fault>
     requires ready { IsReadyFor plan.now reached.now branch scratch.old }
-    requires numbers { Numbers reached.now.explored.memory (state_by plan.now reached.now.tree branch) next.now }
+    requires numbers { Numbers reached.now.explored.cache (state_by plan.now reached.now.tree branch) next.now }
     ensures shows { IfOk result (λ b. Decides b (Shows plan.now.start.scenario plan.now.sought
         (state_by plan.now reached.now.tree branch))) }
     ensures scratch { OnOk result (AreScratch plan.now.start reached.now.tree branch.from scratch.new) }
@@ -152,7 +152,7 @@ fn note_new(
     next: &[u32],
 ) -> Result<Met, Fault>
     requires ready { IsReadyFor plan.now reached.old branch scratch.old }
-    requires numbers { Numbers reached.old.explored.memory (state_by plan.now reached.old.tree branch) next.now }
+    requires numbers { Numbers reached.old.explored.cache (state_by plan.now reached.old.tree branch) next.now }
     requires moved { stuck.is_still (step_by plan.now reached.old.tree branch).outcome ≡ false }
     ensures meets { IfOk result (Meets plan.now reached.old.tree reached.new branch scratch.new) }
     ensures goes_on { OnOk result (GoesOn reached.old reached.new) }
@@ -176,7 +176,7 @@ fn note(
     next: &[u32],
 ) -> Result<Met, Fault>
     requires ready { IsReadyFor plan.now reached.old branch scratch.old }
-    requires numbers { Numbers reached.old.explored.memory (state_by plan.now reached.old.tree branch) next.now }
+    requires numbers { Numbers reached.old.explored.cache (state_by plan.now reached.old.tree branch) next.now }
     requires moved { stuck.is_still (step_by plan.now reached.old.tree branch).outcome ≡ false }
     ensures meets { IfOk result (Meets plan.now reached.old.tree reached.new branch scratch.new) }
     ensures goes_on { OnOk result (GoesOn reached.old reached.new) }

@@ -1,7 +1,7 @@
 //! The states that a search has reached.
 ghost use Rattle.std.specs.Prelude.{◌≡◌, ◌<◌, ◌∷◌, [], ◌++◌, IfOk, OnOk};
 ghost use Rattle.std.specs.Prelude.{length};
-ghost use Rattle.zy_step_cache.specs.Memories.{Numbers};
+ghost use Rattle.zy_step_cache.specs.StepCaches.{Numbers};
 ghost use Rattle.zy_search.specs.declared.plan.Plan.{Plan as APlan};
 ghost use Rattle.zy_search.specs.Visits.{path_at, state_by, IsInformed, IsWhole};
 
@@ -31,7 +31,7 @@ impl Reached {
         safe_counts();
         let _tested = plan.start.scenario();
         let mut explored = Explored::new(plan.alloc, counted(&plan.sought), &plan.choices)?;
-        let numbers = explored.memory.numbers_of(&plan.start)?;
+        let numbers = explored.cache.numbers_of(&plan.start)?;
         explored.push(&numbers)?;
         Ok(Reached {
             tree: ChoiceTree::new(plan.alloc),
@@ -44,9 +44,9 @@ impl Reached {
         requires { branch.from < length self.old.tree }
         ensures paths { OnOk result (self.new.tree
             ≡ self.old.tree ++ (path_at self.old.tree branch.from ++ branch.by ∷ []) ∷ []) }
-        ensures memory { self.new.explored.memory ≡ self.old.explored.memory }
+        ensures cache { self.new.explored.cache ≡ self.old.explored.cache }
         ensures informed { OnOk result ((p : APlan) → IsInformed p self.old
-            → Numbers self.old.explored.memory (state_by p self.old.tree branch) numbers.now → IsInformed p self.new) }
+            → Numbers self.old.explored.cache (state_by p self.old.tree branch) numbers.now → IsInformed p self.new) }
     {
         self.explored.push(numbers)?;
         self.tree.push(branch)?;

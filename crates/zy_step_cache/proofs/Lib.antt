@@ -8,7 +8,7 @@ pub mod Plain
 pub mod Again
 pub mod LowestLemmas
 pub mod Growth
-pub mod MemoLemmas
-pub mod MemoryLemmas
+pub mod ChoiceCacheLemmas
+pub mod StepCacheLemmas
 pub mod ExploredLemmas
 pub mod RestLemmas

@@ -2,4 +2,4 @@ pub mod Even
 pub mod Places
 pub mod Rests
 pub mod Steps
-pub mod Memories
+pub mod StepCaches

@@ -10,7 +10,7 @@ use Rattle.zy_table.specs.Play.{step}
 use Rattle.zy_table.specs.declared.outcome.Outcome.{Outcome}
 use Rattle.zy_steps.specs.declared.part.StatePart.{StatePart}
 use Rattle.zy_state_ids.specs.Parts.{IsNumbered}
-use Rattle.zy_step_cache.specs.declared.memo.Remembered.{Remembered}
+use Rattle.zy_step_cache.specs.declared.choice_cache.CachedStep.{CachedStep}
 use Rattle.zy_step_cache.specs.declared.places.Read.{Read}
 use Rattle.zy_step_cache.specs.declared.places.Scope.{Scope}
 use Rattle.zy_step_cache.specs.declared.places.Scope.TheVariants as scope
@@ -46,5 +46,5 @@ pub record Happened (sc : Scenario) (table : List (List ℕ)) (part : StatePart)
   pub outcome : uncounted o ≡ uncounted (step sc c state).outcome
 
 -- each remembered step of a choice happened
-abbrev pub AreTrue : Scenario → List (List ℕ) → StatePart → Choice → List Remembered → Type 0
-AreTrue sc table part c steps = All (λ (r : Remembered). Happened sc table part c r.scope r.read r.written r.outcome) steps
+abbrev pub AreTrue : Scenario → List (List ℕ) → StatePart → Choice → List CachedStep → Type 0
+AreTrue sc table part c steps = All (λ (r : CachedStep). Happened sc table part c r.scope r.read r.written r.outcome) steps

@@ -4,13 +4,13 @@ ghost use Rattle.zy_steps.specs.Reads.{uncounted};
 ghost use Rattle.zy_isa.specs.Choices.{names_below};
 ghost use Rattle.zy_isa.specs.Scenario.{Scenario as AScenario};
 ghost use Rattle.zy_steps.specs.Alike.{Alike};
-ghost use Rattle.zy_step_cache.specs.Memories.{choice_at, choices_of, Knows, Numbers};
+ghost use Rattle.zy_step_cache.specs.StepCaches.{choice_at, choices_of, Knows, Numbers};
 ghost use Rattle.zy_state_ids.specs.Parts.{Keeps};
 ghost use Rattle.zy_table.specs.Play.{step};
 ghost use Rattle.zy_table.specs.State.{State};
 
-use crate::memory::{MOST_NUMBERS, Memory};
 use crate::places::{COMMITS_PLACE, at};
+use crate::step_cache::{MOST_NUMBERS, StepCache};
 use crate::vectors::Vectors;
 use std::alloc::{AllocError, Global};
 use zy_isa::Choice;
@@ -22,7 +22,7 @@ use zy_table::Outcome;
 #[derive(Drop)]
 pub struct Explored {
     pub vectors: Vectors,
-    pub memory: Memory,
+    pub cache: StepCache,
 }
 
 /// The numbers at a place; none where there are none.
@@ -38,14 +38,14 @@ fn numbers_in(vectors: &Vectors, place: usize) -> &[u32]
 impl Explored {
     /// No state, and nothing is remembered yet of the steps of these choices.
     pub fn new(alloc: Global, part: StatePart, choices: &[Choice]) -> Result<Explored, AllocError>
-        ensures part { IfOk result (λ e. e.memory.part ≡ part) }
-        ensures choices { IfOk result (λ e. choices_of e.memory ≡ choices.now) }
+        ensures part { IfOk result (λ e. e.cache.part ≡ part) }
+        ensures choices { IfOk result (λ e. choices_of e.cache ≡ choices.now) }
         ensures knows { IfOk result (λ e. (sc : AScenario) → Knows sc e []) }
     {
-        let memory = Memory::new(alloc, part, choices)?;
+        let cache = StepCache::new(alloc, part, choices)?;
         Ok(Explored {
             vectors: Vectors::new(alloc),
-            memory,
+            cache,
         })
     }
 
@@ -66,31 +66,31 @@ impl Explored {
         outcome: Outcome,
         next: &mut Vec<u32>,
     ) -> Result<(), AllocError>
-        requires there { choice < length self.old.memory.memos.items }
+        requires there { choice < length self.old.cache.caches.items }
         ensures vectors { self.new.vectors ≡ self.old.vectors }
-        ensures part { self.new.memory.part ≡ self.old.memory.part }
-        ensures choices { choices_of self.new.memory ≡ choices_of self.old.memory }
-        ensures keeps { OnOk result (Keeps self.old.memory.table self.new.memory.table) }
-        ensures next { OnOk result (Numbers self.new.memory after.now.state next.new.items) }
+        ensures part { self.new.cache.part ≡ self.old.cache.part }
+        ensures choices { choices_of self.new.cache ≡ choices_of self.old.cache }
+        ensures keeps { OnOk result (Keeps self.old.cache.table self.new.cache.table) }
+        ensures next { OnOk result (Numbers self.new.cache after.now.state next.new.items) }
         // What is known of states stays known, if this step happened.
         ensures knows { OnOk result ((sc : AScenario) (states : List State) (s : State) → Knows sc self.old states
-            → slice_get states place ≡ Some s → after.now.state ≡ (step sc (choice_at self.old.memory choice) s).after
-            → uncounted outcome ≡ uncounted (step sc (choice_at self.old.memory choice) s).outcome
-            → names_below (length sc.programs) (choice_at self.old.memory choice) ≡ true → Knows sc self.new states) }
+            → slice_get states place ≡ Some s → after.now.state ≡ (step sc (choice_at self.old.cache choice) s).after
+            → uncounted outcome ≡ uncounted (step sc (choice_at self.old.cache choice) s).outcome
+            → names_below (length sc.programs) (choice_at self.old.cache choice) ≡ true → Knows sc self.new states) }
     {
-        *next = self.memory.numbers_of(after)?;
+        *next = self.cache.numbers_of(after)?;
         let before = numbers_in(&self.vectors, place);
         if MOST_NUMBERS <= before.len() {
             return Ok(());
         }
-        self.memory.learn(choice, before, next, outcome)?;
+        self.cache.learn(choice, before, next, outcome)?;
         Ok(())
     }
 
     /// Whether the state at a place has the commits of one that has these numbers. Where it answers yes it has.
     pub fn same_commits(&self, place: usize, numbers: &[u32]) -> bool
         ensures { result ≡ true → (sc : AScenario) (states : List State) (s t : State) → Knows sc self.now states
-            → slice_get states place ≡ Some s → Numbers self.now.memory t numbers.now → t.commits ≡ s.commits }
+            → slice_get states place ≡ Some s → Numbers self.now.cache t numbers.now → t.commits ≡ s.commits }
     {
         at(self.numbers(place), COMMITS_PLACE) == at(numbers, COMMITS_PLACE)
     }
@@ -100,16 +100,16 @@ impl Explored {
         ensures there { IfSome result (λ i. (sc : AScenario) (states : List State) → Knows sc self.now states
             → i < length states) }
         ensures alike { IfSome result (λ i. (sc : AScenario) (states : List State) (s t : State) → Knows sc self.now states
-            → slice_get states i ≡ Some s → Numbers self.now.memory t numbers.now → Alike self.now.memory.part s t) }
+            → slice_get states i ≡ Some s → Numbers self.now.cache t numbers.now → Alike self.now.cache.part s t) }
     {
         self.vectors.find(numbers)
     }
 
     /// Takes in a state more, by its numbers.
     pub fn push(&mut self, numbers: &[u32]) -> Result<(), AllocError>
-        ensures memory { self.new.memory ≡ self.old.memory }
+        ensures cache { self.new.cache ≡ self.old.cache }
         ensures knows { OnOk result ((sc : AScenario) (states : List State) (s : State) → Knows sc self.old states
-            → Numbers self.old.memory s numbers.now → length s.txns ≡ length sc.programs
+            → Numbers self.old.cache s numbers.now → length s.txns ≡ length sc.programs
             → Knows sc self.new (states ++ s ∷ [])) }
     {
         self.vectors.push(numbers)?;

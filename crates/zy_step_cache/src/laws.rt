@@ -6,7 +6,7 @@ ghost use Rattle.zy_isa.specs.Scenario.{Scenario};
 ghost use Rattle.zy_steps.specs.declared.part.StatePart.{StatePart};
 ghost use Rattle.zy_step_cache.specs.declared.places.Read.{Read as ARead};
 ghost use Rattle.zy_step_cache.specs.declared.places.Scope.{Scope as AScope};
-ghost use Rattle.zy_step_cache.specs.declared.memo.Remembered.{Remembered as AStep};
+ghost use Rattle.zy_step_cache.specs.declared.choice_cache.CachedStep.{CachedStep as AStep};
 ghost use Rattle.zy_step_cache.specs.Places.{places, reads};
 ghost use Rattle.zy_step_cache.specs.Steps.{put_at, AreTrue, Happened};
 ghost use Rattle.zy_state_ids.specs.Parts.{IsNumbered, Keeps};
@@ -28,7 +28,7 @@ pub fn a_step_happens_again()
 {}
 
 /// What happened stays so while the table of parts grows.
-pub fn memories_stay()
+pub fn cached_steps_stay()
     ensures { (sc : Scenario) (old new : List (List ℕ)) (part : StatePart) (c : AChoice) (steps : List AStep)
         → Keeps old new → AreTrue sc old part c steps → AreTrue sc new part c steps }
 {}

@@ -2,16 +2,16 @@
 #![tactic(auto)]
 
 mod arena;
+pub mod choice_cache;
 pub mod explored;
 pub mod laws;
-pub mod memo;
-pub mod memory;
 pub mod places;
 mod slots;
+pub mod step_cache;
 pub mod vectors;
 
+pub use crate::choice_cache::{CachedStep, ChoiceCache};
 pub use crate::explored::Explored;
-pub use crate::memo::{ChoiceMemo, Remembered};
-pub use crate::memory::Memory;
 pub use crate::places::Scope;
+pub use crate::step_cache::StepCache;
 pub use crate::vectors::Vectors;

@@ -40,5 +40,5 @@ returns c =
         informed = pushed.informed p c.requires.ready.informed c.requires.numbers;
         machines = scratch_grown p.start old.tree c.push.new.self.tree b.from _ well.grows turn.ready.there c.in_ok-shows_next.ensures.scratch;
       };
-      goes_on = adds old c.push.new.self well.grows pushed.memory;
+      goes_on = adds old c.push.new.self well.grows pushed.cache;
     }

@@ -2,8 +2,8 @@ use Rattle.std.proofs.Common.{◌≡◌, ◌∙◌, ap, List, [], length, subst,
 use Rattle.zy_isa.specs.declared.choice.Choice.{Choice}
 use Rattle.zy_table.specs.State.{State}
 use Rattle.zy_machine.specs.Histories.{choices_of}
-use Rattle.zy_step_cache.specs.Memories.{Knows}
-use Rattle.zy_step_cache.specs.Memories.{choices_of as choices_in}
+use Rattle.zy_step_cache.specs.StepCaches.{Knows}
+use Rattle.zy_step_cache.specs.StepCaches.{choices_of as choices_in}
 use Rattle.zy_search.specs.Visits.{states_of}
 use Rattle.zy_search.proofs.reached.Reached.new.Goals as goal
 
@@ -20,6 +20,6 @@ returns-clause-informed c =
     let first = pushed.knows sc [] h.state (record { truth = numbers.truth sc none.truth; many = none.many; each = λ i s e. cc }) (rw c.deref-2.ensures.value numbers.numbers) many in
     record {
       knows = subst (λ (ps : List (List Choice)). Knows sc c.push.new.self (states_of h ps)) (sym c.new-2.ensures) first;
-      part = rw pushed.memory (numbers.part ∙ (c.in_ok-explored.ensures.part ∙ c.counted.ensures));
-      choices = ap choices_in pushed.memory ∙ (numbers.choices ∙ (c.in_ok-explored.ensures.choices ∙ c.deref.ensures.value));
+      part = rw pushed.cache (numbers.part ∙ (c.in_ok-explored.ensures.part ∙ c.counted.ensures));
+      choices = ap choices_in pushed.cache ∙ (numbers.choices ∙ (c.in_ok-explored.ensures.choices ∙ c.deref.ensures.value));
     }

@@ -1,5 +1,5 @@
 use Rattle.std.proofs.Common.{List, ℕ, refl, subst, sym}
-use Rattle.zy_step_cache.specs.Memories.{choice_at, Leads, Numbers}
+use Rattle.zy_step_cache.specs.StepCaches.{choice_at, Leads, Numbers}
 use Rattle.zy_step_cache.proofs.ExploredLemmas.{grown, remembered}
 use Rattle.zy_step_cache.proofs.explored.Explored.learn.Goals as goal
 

@@ -11,7 +11,7 @@ use Rattle.zy_steps.specs.declared.part.StatePart.{StatePart}
 use Rattle.zy_table.specs.State.{State}
 use Rattle.zy_table.specs.Play.{step}
 use Rattle.zy_state_ids.specs.Parts.{IsNumbered}
-use Rattle.zy_step_cache.specs.declared.memo.Remembered.{Remembered}
+use Rattle.zy_step_cache.specs.declared.choice_cache.CachedStep.{CachedStep}
 use Rattle.zy_step_cache.specs.declared.places.Scope.{Scope}
 use Rattle.zy_step_cache.specs.Places.{at, places, reads}
 use Rattle.zy_step_cache.specs.Steps.{Happened, AreTrue, IsInScope}
@@ -32,13 +32,13 @@ one P x p zero d h = p
 one P x p (suc k) d h = absurd (omega (arith, h))
 
 -- one more step that happened is kept
-pub learned : (sc : Scenario) (table : List (List ℕ)) (part : StatePart) (c : Choice) (old new : List Remembered) (r : Remembered) (s : State) (k : Scope)
+pub learned : (sc : Scenario) (table : List (List ℕ)) (part : StatePart) (c : Choice) (old new : List CachedStep) (r : CachedStep) (s : State) (k : Scope)
     (before after : List ℕ) → AreTrue sc table part c old → new ≡ old ++ r ∷ [] → IsNumbered table part before s
     → IsNumbered table part after (step sc c s).after → length s.txns ≡ length sc.programs → names_below (length sc.programs) c ≡ true
     → IsInScope c k before after → r.scope ≡ k → r.read ≡ reads table c k before → r.written ≡ map (at after) (places table c k before)
     → uncounted r.outcome ≡ uncounted (step sc c s).outcome → AreTrue sc table part c new
 learned sc table part c old new r s k before after each more is_before is_after many named within scope read written outcome =
-    let P : Remembered → Type 0 = λ x. Happened sc table part c x.scope x.read x.written x.outcome in
+    let P : CachedStep → Type 0 = λ x. Happened sc table part c x.scope x.read x.written x.outcome in
     let this : P r = record {
       state = s;
       before = before;

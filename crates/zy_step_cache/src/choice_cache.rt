@@ -20,7 +20,7 @@ use zy_table::Outcome;
 
 /// A step that is remembered.
 #[derive(Clone, Copy)]
-pub struct Remembered {
+pub struct CachedStep {
     /// What it read and wrote beside its node and its transaction, if it is a run.
     pub scope: Scope,
     /// All that it read.
@@ -33,10 +33,10 @@ pub struct Remembered {
 
 /// The steps of a choice that are remembered.
 #[derive(Drop)]
-pub struct ChoiceMemo {
+pub struct ChoiceCache {
     alloc: Global,
     pub choice: Choice,
-    pub steps: Vec<Remembered>,
+    pub steps: Vec<CachedStep>,
     slots: Slots,
 }
 
@@ -80,14 +80,14 @@ fn note_of(
     before: &[u32],
     after: &[u32],
     outcome: Outcome,
-) -> Remembered
+) -> CachedStep
     requires { length before.now < 4294967295 }
     ensures scope { result.scope ≡ scope }
     ensures read { result.read ≡ spec.reads table.now choice scope before.now }
     ensures written { result.written ≡ map (spec.at after.now) (spec.places table.now choice scope before.now) }
     ensures outcome { result.outcome ≡ outcome }
 {
-    Remembered {
+    CachedStep {
         scope,
         read: reads(table, choice, scope, before),
         written: at_places(after, places(table, choice, scope, before)),
@@ -95,13 +95,13 @@ fn note_of(
     }
 }
 
-impl ChoiceMemo {
+impl ChoiceCache {
     /// No step yet.
-    pub fn new(alloc: Global, choice: Choice) -> ChoiceMemo
+    pub fn new(alloc: Global, choice: Choice) -> ChoiceCache
         ensures choice { result.choice ≡ choice }
         ensures steps { result.steps.items ≡ [] }
     {
-        ChoiceMemo {
+        ChoiceCache {
             alloc,
             choice,
             steps: Vec::new(alloc),
@@ -110,7 +110,7 @@ impl ChoiceMemo {
     }
 
     /// The step that read this, if one is remembered.
-    fn find(&self, scope: Scope, read: Read) -> Option<&Remembered>
+    fn find(&self, scope: Scope, read: Read) -> Option<&CachedStep>
         ensures there { IfSome result (λ r. Contains self.entry.now.steps.items r.now) }
         ensures scope { IfSome result (λ r. r.now.scope ≡ scope) }
         ensures read { IfSome result (λ r. r.now.read ≡ read) }
@@ -132,7 +132,7 @@ impl ChoiceMemo {
     }
 
     /// A step that read what its choice reads of these numbers in a scope, if one is remembered.
-    fn recall_in(&self, table: &PartTable, scope: Scope, numbers: &[u32]) -> Option<&Remembered>
+    fn recall_in(&self, table: &PartTable, scope: Scope, numbers: &[u32]) -> Option<&CachedStep>
         requires { length numbers.now < 4294967295 }
         ensures there { IfSome result (λ r. Contains self.entry.now.steps.items r.now) }
         ensures read { IfSome result (λ r. r.now.read
@@ -142,7 +142,7 @@ impl ChoiceMemo {
     }
 
     /// A step that read what its choice reads of these numbers, if one is remembered.
-    pub fn recall(&self, table: &PartTable, numbers: &[u32]) -> Option<&Remembered>
+    pub fn recall(&self, table: &PartTable, numbers: &[u32]) -> Option<&CachedStep>
         requires { length numbers.now < 4294967295 }
         ensures there { IfSome result (λ r. Contains self.entry.now.steps.items r.now) }
         ensures read { IfSome result (λ r. r.now.read
@@ -187,7 +187,7 @@ impl ChoiceMemo {
     }
 
     /// Keeps a step.
-    fn keep(&mut self, step: Remembered) -> Result<(), AllocError>
+    fn keep(&mut self, step: CachedStep) -> Result<(), AllocError>
         ensures choice { self.new.choice ≡ self.old.choice }
         ensures steps { OnOk result (self.new.steps.items ≡ self.old.steps.items ++ step ∷ []) }
     {
@@ -212,7 +212,7 @@ fn put(numbers: &mut Vec<u32>, place: usize, number: u32)
 pub fn write(
     table: &PartTable,
     choice: Choice,
-    step: &Remembered,
+    step: &CachedStep,
     numbers: &[u32],
     after: &mut Vec<u32>,
 ) -> Result<(), AllocError>

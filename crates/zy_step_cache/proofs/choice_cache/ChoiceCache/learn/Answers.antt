@@ -1,8 +1,8 @@
 use Rattle.std.proofs.Common.{◌∙◌, ap, subst, sym}
 use Rattle.zy_steps.specs.Reads.{uncounted}
 use Rattle.zy_step_cache.specs.Steps.{AreTrue}
-use Rattle.zy_step_cache.proofs.MemoLemmas.{learned}
-use Rattle.zy_step_cache.proofs.memo.ChoiceMemo.learn.Goals as goal
+use Rattle.zy_step_cache.proofs.ChoiceCacheLemmas.{learned}
+use Rattle.zy_step_cache.proofs.choice_cache.ChoiceCache.learn.Goals as goal
 
 pub returns-clause-steps : goal.returns-clause-steps
 returns-clause-steps c sc part s each before after many named outcome =

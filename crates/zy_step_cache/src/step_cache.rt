@@ -3,13 +3,13 @@ ghost use Rattle.std.specs.Prelude.{◌≡◌, ◌<◌, [], IfOk, IfSome, OnOk, 
 ghost use Rattle.std.specs.List.{All};
 ghost use Rattle.zy_isa.specs.Choices.{names_below};
 ghost use Rattle.zy_isa.specs.Scenario.{Scenario};
-ghost use Rattle.zy_step_cache.specs.Memories.{choice_at, choices_of, numbers_by, IsTrue, Leads, Numbers};
+ghost use Rattle.zy_step_cache.specs.StepCaches.{choice_at, choices_of, numbers_by, IsTrue, Leads, Numbers};
 ghost use Rattle.zy_step_cache.specs.Rests.{is_idle};
 ghost use Rattle.zy_state_ids.specs.Parts.{Keeps};
 ghost use Rattle.zy_table.specs.Play.{step};
 ghost use Rattle.zy_table.specs.State.{State};
 
-use crate::memo::{ChoiceMemo, Remembered, write};
+use crate::choice_cache::{CachedStep, ChoiceCache, write};
 use crate::places::rests;
 use std::alloc::{AllocError, Global};
 use zy_isa::Choice;
@@ -21,44 +21,44 @@ use zy_table::Outcome;
 
 /// The parts of states, and the steps of some choices that are remembered.
 #[derive(Drop)]
-pub struct Memory {
+pub struct StepCache {
     alloc: Global,
     /// How much of a state counts.
     pub part: StatePart,
     /// The parts.
     pub table: PartTable,
     /// The steps, by choice.
-    pub memos: Vec<ChoiceMemo>,
+    pub caches: Vec<ChoiceCache>,
 }
 
 /// Of a state with as many numbers no step is remembered. None has: there are at most 64 transactions.
 pub(crate) const MOST_NUMBERS: usize = 4_294_967_295;
 
-/// A memory of the steps of each choice, with no step yet.
-fn memos_of(alloc: Global, choices: &[Choice]) -> Result<Vec<ChoiceMemo>, AllocError>
+/// A cache for each of these choices, with no step yet.
+fn caches_of(alloc: Global, choices: &[Choice]) -> Result<Vec<ChoiceCache>, AllocError>
     ensures choices { IfOk result (λ v. map (λ x. x.choice) v.items ≡ choices.now) }
     ensures none { IfOk result (λ v. All (λ x. x.steps.items ≡ []) v.items) }
 {
-    let mut memos = Vec::with_capacity(alloc, choices.len())?;
+    let mut caches = Vec::with_capacity(alloc, choices.len())?;
     for choice in choices {
-        memos.push(ChoiceMemo::new(alloc, *choice))?;
+        caches.push(ChoiceCache::new(alloc, *choice))?;
     }
-    Ok(memos)
+    Ok(caches)
 }
 
-impl Memory {
+impl StepCache {
     /// Nothing is remembered yet of the steps of these choices.
-    pub fn new(alloc: Global, part: StatePart, choices: &[Choice]) -> Result<Memory, AllocError>
+    pub fn new(alloc: Global, part: StatePart, choices: &[Choice]) -> Result<StepCache, AllocError>
         ensures part { IfOk result (λ m. m.part ≡ part) }
         ensures choices { IfOk result (λ m. choices_of m ≡ choices.now) }
         ensures truth { IfOk result (λ m. (sc : Scenario) → IsTrue sc m) }
     {
-        let memos = memos_of(alloc, choices)?;
-        Ok(Memory {
+        let caches = caches_of(alloc, choices)?;
+        Ok(StepCache {
             alloc,
             part,
             table: PartTable::new(alloc),
-            memos,
+            caches,
         })
     }
 
@@ -85,8 +85,8 @@ impl Memory {
 
     /// A step of the choice at a place that read what it reads of a state with these numbers, if one is remembered. A commit may
     /// have another number.
-    pub fn recall(&self, place: usize, numbers: &[u32]) -> Option<&Remembered>
-        requires { place < length self.now.memos.items }
+    pub fn recall(&self, place: usize, numbers: &[u32]) -> Option<&CachedStep>
+        requires { place < length self.now.caches.items }
         ensures { IfSome result (λ r. (sc : Scenario) (s : State) → IsTrue sc self.entry.now → Numbers self.entry.now s numbers.entry.now
             → length s.txns ≡ length sc.programs
             → Leads sc self.entry.now (choice_at self.entry.now place) s (numbers_by self.entry.now place r.now numbers.entry.now) r.now.outcome) }
@@ -94,21 +94,21 @@ impl Memory {
         if MOST_NUMBERS <= numbers.len() {
             return None;
         }
-        self.memos[place].recall(&self.table, numbers)
+        self.caches[place].recall(&self.table, numbers)
     }
 
     /// The numbers to which a remembered step of a choice leads go to `after`.
     pub fn follow(
         &self,
         place: usize,
-        step: &Remembered,
+        step: &CachedStep,
         numbers: &[u32],
         after: &mut Vec<u32>,
     ) -> Result<(), AllocError>
-        requires there { place < length self.now.memos.items }
+        requires there { place < length self.now.caches.items }
         ensures { OnOk result (after.new.items ≡ numbers_by self.now place step.now numbers.now) }
     {
-        write(&self.table, self.memos[place].choice, step, numbers, after)
+        write(&self.table, self.caches[place].choice, step, numbers, after)
     }
 
     /// Remembers a step by its numbers before and after it.
@@ -119,7 +119,7 @@ impl Memory {
         after: &[u32],
         outcome: Outcome,
     ) -> Result<(), AllocError>
-        requires there { place < length self.old.memos.items }
+        requires there { place < length self.old.caches.items }
         requires few { length before.now < 4294967295 }
         ensures part { self.new.part ≡ self.old.part }
         ensures table { self.new.table ≡ self.old.table }
@@ -129,7 +129,7 @@ impl Memory {
             → Leads sc self.old (choice_at self.old place) s after.now outcome → length s.txns ≡ length sc.programs
             → names_below (length sc.programs) (choice_at self.old place) ≡ true → IsTrue sc self.new) }
     {
-        self.memos[place].learn(&self.table, before, after, outcome)?;
+        self.caches[place].learn(&self.table, before, after, outcome)?;
         Ok(())
     }
 }

@@ -1,8 +1,8 @@
 use Rattle.std.proofs.Common.{subst, sym, ℕ}
 use Rattle.zy_isa.specs.declared.choice.Choice.TheVariants.{Run}
 use Rattle.zy_step_cache.specs.Steps.{IsInScope}
-use Rattle.zy_step_cache.proofs.MemoLemmas.{if_some}
-use Rattle.zy_step_cache.proofs.memo.scope_of.Goals as goal
+use Rattle.zy_step_cache.proofs.ChoiceCacheLemmas.{if_some}
+use Rattle.zy_step_cache.proofs.choice_cache.scope_of.Goals as goal
 
 pub returns-in-Run : goal.returns-in-Run
 returns-in-Run c =
