@@ -20,10 +20,10 @@ use zy_isa::Choice;
 use zy_order_engine::names::names_of;
 use zy_queries::reading::{read_always, read_goal};
 use zy_queries::{GoalFault, Names};
-use zy_report::again::extent_of;
 use zy_report::explained::{explain, found_again};
-use zy_report::marked::Marked;
 use zy_report::progress::Progress;
+use zy_report::refused_goal::RefusedGoal;
+use zy_report::rerun::extent_of;
 use zy_report::summary::{Count, Summary};
 use zy_report::way_out::tell_way_out;
 use zy_search::{SearchAnswer, SearchReport, Sought};
@@ -57,16 +57,16 @@ fn no_goal(
     match fault {
         GoalFault::Memory => Err(BenchFault::Memory),
         GoalFault::Refused(refusal) => {
-            let marked = Marked::of(request.text, request.is_always, refusal);
-            let _ = eprintln!(rt; "zy_bench: {marked}");
+            let refused = RefusedGoal::of(request.text, request.is_always, refusal);
+            let _ = eprintln!(rt; "zy_bench: {refused}");
             Ok(COMMAND_LINE)
         }
     }
 }
 
-/// What is asked of the states that meet a goal.
+/// What to answer about the states that meet a goal.
 #[derive(Clone, Copy)]
-pub enum Asked {
+pub enum AnswerKind {
     /// A schedule to one of them. Standard error may be a terminal, which sees how far the search is.
     Schedule { is_terminal: bool },
     /// Where they are in a run.
@@ -77,7 +77,7 @@ pub enum Asked {
 /// names of transactions, which the scenario has.
 pub fn answer<R: Eprint + AllocGlobal + Clock + Threads + Sync, G: Read, W: Write>(
     rt: &R,
-    asked: Asked,
+    kind: AnswerKind,
     request: SearchRequest<'_>,
     given: &mut G,
     input: &mut Vec<u8>,
@@ -89,13 +89,13 @@ pub fn answer<R: Eprint + AllocGlobal + Clock + Threads + Sync, G: Read, W: Writ
         return no_goal(rt, request, fault);
     }
     *input = read_all(rt.alloc(), &mut CountingReader::new(given))?;
-    answer_read(rt, asked, request, input.as_slice(), output)
+    answer_read(rt, kind, request, input.as_slice(), output)
 }
 
 /// Answers what is asked of a scenario that was read, and gives the exit status.
 fn answer_read<R: Eprint + AllocGlobal + Clock + Threads + Sync, W: Write>(
     rt: &R,
-    asked: Asked,
+    kind: AnswerKind,
     request: SearchRequest<'_>,
     scenario: &[u8],
     output: &mut Output<W>,
@@ -105,11 +105,11 @@ fn answer_read<R: Eprint + AllocGlobal + Clock + Threads + Sync, W: Write>(
     match sought_in(rt.alloc(), request, scenario)? {
         Ok(sought) => {
             let sought = warned(rt, request.options.format, scenario, sought)?;
-            match asked {
-                Asked::Schedule { is_terminal } => {
+            match kind {
+                AnswerKind::Schedule { is_terminal } => {
                     search(rt, request, sought, scenario, output, is_terminal)
                 }
-                Asked::Positions => find(rt, request.options.format, sought, scenario, output),
+                AnswerKind::Positions => find(rt, request.options.format, sought, scenario, output),
             }
         }
         Err(fault) => {

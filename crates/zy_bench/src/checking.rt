@@ -9,10 +9,10 @@ use zy_diagnostics::line::whole_line;
 use zy_engine::checking::check_bytes;
 use zy_engine::{BenchFault, Format};
 use zy_io::CountingReader;
-use zy_report::again::{line_due, scenario_part};
 use zy_report::excerpt::Differing;
 use zy_report::explained::explain_again;
 use zy_report::origin::Origin;
+use zy_report::rerun::{line_due, scenario_part};
 use zy_text::cut::cut_len;
 
 /// How a listing ends whose rows are not those of the commit order.

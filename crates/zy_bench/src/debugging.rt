@@ -9,7 +9,7 @@ use zy_cli::request::Checkpoints;
 use zy_engine::BenchFault;
 use zy_engine::debugging::{MAX_EVERY, MAX_RING, debug_bytes};
 use zy_io::CountingReader;
-use zy_report::commands::Commands;
+use zy_report::bad_commands::BadCommands;
 
 /// Answers the commands that are given below a scenario, and gives the exit status.
 pub fn debug<R: Eprint + AllocGlobal, F: Read + Drop, S: Read, W: Write>(
@@ -29,7 +29,7 @@ pub fn debug<R: Eprint + AllocGlobal, F: Read + Drop, S: Read, W: Write>(
     let mut source = CountingReader::new(&mut *given);
     debug_bytes(rt.alloc(), every, ring, &mut source, output, input)?;
     pass(output)?;
-    let session = Commands {
+    let session = BadCommands {
         file,
         lines: given.lines(),
     };

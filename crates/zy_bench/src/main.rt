@@ -13,14 +13,14 @@ mod ordering;
 mod output;
 mod running;
 
-use answering::{Asked, answer};
+use answering::{AnswerKind, answer};
 use checking::check;
 use clap::ArgMatches;
 use clap::error::ErrorKind;
 use debugging::debug;
 use ending::end;
 use given::Given;
-use ordering::{Asker, order};
+use ordering::{OrderCaller, order};
 use output::{Output, output_to, pass_rest};
 use running::convert;
 use std::alloc::Global;
@@ -36,8 +36,8 @@ use zy_cli::exit_status::{COMMAND_LINE, DONE};
 use zy_cli::request::request_of;
 use zy_cli::{Hint, Request, Task};
 use zy_engine::BenchFault;
-use zy_report::advised::{Advised, InputRead};
 use zy_report::failure::Failure;
+use zy_report::fault_message::{FaultMessage, InputRead};
 use zy_report::origin::Origin;
 
 /// Reports a fault on standard error, and gives the exit status.
@@ -183,14 +183,14 @@ fn perform<
         Task::Check => check(rt, file, given, input, output),
         Task::Debug(checkpoints) => debug(rt, checkpoints, file, given, input, output),
         Task::Search(search) => {
-            let asked = Asked::Schedule { is_terminal };
-            answer(rt, asked, search, given, input, output)
+            let kind = AnswerKind::Schedule { is_terminal };
+            answer(rt, kind, search, given, input, output)
         }
-        Task::Find(search) => answer(rt, Asked::Positions, search, given, input, output),
+        Task::Find(search) => answer(rt, AnswerKind::Positions, search, given, input, output),
         Task::End(format, wording) => end(rt, format, wording, given, input, output),
         Task::Order(logs) => {
-            let asker = Asker { file, is_terminal };
-            order(rt, logs, asker, given, input, output)
+            let caller = OrderCaller { file, is_terminal };
+            order(rt, logs, caller, given, input, output)
         }
     }
 }
@@ -216,8 +216,8 @@ fn reading_of<'a, F: Drop, S>(
 
 /// Reports a fault of an input on standard error, and what to do about it, and gives the exit status.
 fn advise(rt: &impl Eprint, reading: InputRead<'_>, fault: BenchFault) -> u8 {
-    let advised = Advised::of(reading, fault);
-    let _ = eprintln!(rt; "{advised}");
+    let message = FaultMessage::of(reading, fault);
+    let _ = eprintln!(rt; "{message}");
     fault.status()
 }
 

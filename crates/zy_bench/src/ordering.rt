@@ -21,9 +21,9 @@ use zy_report::refused_line::RefusedLine;
 use zy_report::refused_object::{RefusedObject, ToldLine};
 use zy_report::summary::Count;
 
-/// Who asks for an order.
+/// What an order is asked for with, beside its logs.
 #[derive(Clone, Copy)]
-pub struct Asker<'a> {
+pub struct OrderCaller<'a> {
     /// The file that has the input, if it is not standard input.
     pub file: Option<&'a str>,
     /// Whether standard error is a terminal.
@@ -35,15 +35,15 @@ pub struct Asker<'a> {
 pub fn order<R: Eprint + Files + AllocGlobal + Clock, G: Read, W: Write>(
     rt: &R,
     request: OrderRequest<'_>,
-    asker: Asker<'_>,
+    caller: OrderCaller<'_>,
     given: &mut G,
     input: &mut Vec<u8>,
     output: &mut Output<W>,
 ) -> Result<u8, BenchFault>
     requires { output.old.sink.1 < u64.MAX }
 {
-    let file = asker.file;
-    let mut progress = Progress::new(rt, asker.is_terminal);
+    let file = caller.file;
+    let mut progress = Progress::new(rt, caller.is_terminal);
     let source = &mut CountingReader::new(given);
     let ordered = order_bytes(
         rt.alloc(),

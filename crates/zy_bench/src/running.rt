@@ -13,7 +13,7 @@ use zy_engine::{BenchFault, Format, SourceFormat};
 use zy_io::{CountingReader, Source};
 use zy_machine::Machine;
 use zy_report::explained::explain;
-use zy_report::nothing::Nothing;
+use zy_report::no_effect::NoEffect;
 use zy_threads::FreeGate;
 
 /// Ends a command that has written: passes on what is kept back, and gives the exit status.
@@ -104,8 +104,8 @@ fn shown_run<R: AllocGlobal + Threads + Wait + Sync, S: Source, W: Write>(
 /// Says on standard error where nothing came of a run or of a transaction, and which order explains the rows of a run
 /// where that of the commits does not.
 fn comment<R: Eprint + AllocGlobal>(rt: &R, machine: &Machine) {
-    if let Some(nothing) = Nothing::of(machine) {
-        let _ = eprintln!(rt; "zy_bench: {nothing}");
+    if let Some(no_effect) = NoEffect::of(machine) {
+        let _ = eprintln!(rt; "zy_bench: {no_effect}");
     }
     explain(rt, machine);
 }

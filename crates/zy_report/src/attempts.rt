@@ -1,6 +1,6 @@
 //! What came of the steps and kills of transactions.
 
-use crate::nothing::Cause;
+use crate::no_effect::Cause;
 use zy_isa::{Choice, MAX_TXNS, Node};
 use zy_machine::Machine;
 use zy_table::{Outcome, Status};
@@ -9,7 +9,7 @@ const _: () = prove!(MAX_TXNS == 64);
 
 /// What came of the steps and kills of a transaction.
 #[derive(Clone, Copy)]
-pub struct Tally {
+pub struct Attempts {
     /// How many were idle.
     idle: usize,
     /// How many were at the node where it is not.
@@ -18,9 +18,9 @@ pub struct Tally {
     others: usize,
 }
 
-impl Tally {
+impl Attempts {
     /// No step yet.
-    const NONE: Tally = Tally {
+    const NONE: Attempts = Attempts {
         idle: 0,
         elsewhere: 0,
         others: 0,
@@ -95,23 +95,23 @@ impl Doubtful {
 
 /// What came of the steps and kills of each doubtful transaction, by its number.
 #[derive(Clone, Copy)]
-pub struct Tallies([Tally; 64]);
+pub struct AttemptsByTxn([Attempts; 64]);
 
-impl Tallies {
+impl AttemptsByTxn {
     /// Those of a run. Only where they decide what is said the kills are among them: nothing comes of a kill before the
     /// beginning, and what is said of a transaction that was run at the other node does not count those.
-    pub fn of(machine: &Machine, doubtful: Doubtful) -> Tallies {
-        let mut tallies = Tallies([Tally::NONE; 64]);
-        tallies.note_steps(machine, doubtful);
-        if doubtful.has_new || !tallies.has_elsewhere() {
-            tallies.note_kills(machine, doubtful);
+    pub fn of(machine: &Machine, doubtful: Doubtful) -> AttemptsByTxn {
+        let mut attempts = AttemptsByTxn([Attempts::NONE; 64]);
+        attempts.note_steps(machine, doubtful);
+        if doubtful.has_new || !attempts.has_elsewhere() {
+            attempts.note_kills(machine, doubtful);
         }
-        tallies
+        attempts
     }
 
     /// What came of the steps and kills of a transaction.
-    pub fn of_txn(&self, txn: usize) -> Tally {
-        self.0.get(txn).copied().unwrap_or(Tally::NONE)
+    pub fn of_txn(&self, txn: usize) -> Attempts {
+        self.0.get(txn).copied().unwrap_or(Attempts::NONE)
     }
 
     /// Notes what came of each step.
@@ -138,8 +138,8 @@ impl Tallies {
 
     /// Notes what came of a step or a kill of a transaction.
     fn note(&mut self, txn: u8, outcome: Outcome) {
-        if let Some(tally) = self.0.get_mut(usize::from(txn)) {
-            tally.note(outcome);
+        if let Some(of_txn) = self.0.get_mut(usize::from(txn)) {
+            of_txn.note(outcome);
         }
     }
 
@@ -147,6 +147,6 @@ impl Tallies {
     fn has_elsewhere(&self) -> bool {
         self.0
             .iter()
-            .any(|tally| tally.elsewhere > 0 && tally.others == 0)
+            .any(|of_txn| of_txn.elsewhere > 0 && of_txn.others == 0)
     }
 }

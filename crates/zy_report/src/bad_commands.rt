@@ -11,14 +11,14 @@ use zy_text::line::take_line;
 
 /// Where the commands of a session are.
 #[derive(Clone, Copy)]
-pub struct Commands<'a> {
+pub struct BadCommands<'a> {
     /// The file that the input begins with.
     pub file: Option<&'a str>,
     /// How many of its lines are above standard input.
     pub lines: usize,
 }
 
-impl<'a> Commands<'a> {
+impl<'a> BadCommands<'a> {
     /// Says on standard error which lines below the scenario are no commands, and why.
     pub fn tell_bad(self, rt: &impl Eprint, input: &[u8]) {
         let (scenario, commands) = split_scenario(input);

@@ -1,7 +1,7 @@
 //! The order that explains the rows of a run, as standard error names it.
 
-use crate::again::{make_again, open_again};
-use crate::nothing::tell_number;
+use crate::no_effect::tell_number;
+use crate::rerun::{make_again, open_again};
 use std::alloc::Global;
 use std::fmt;
 use zy_engine::{BenchFault, Format, SearchOptions};

@@ -23,15 +23,15 @@ pub struct InputRead<'a> {
 
 /// A fault, as standard error shows it.
 #[derive(Clone, Copy)]
-pub struct Advised<'a> {
+pub struct FaultMessage<'a> {
     reading: InputRead<'a>,
     fault: BenchFault,
 }
 
-impl<'a> Advised<'a> {
+impl<'a> FaultMessage<'a> {
     /// Why a command rejects what it has read.
-    pub fn of(reading: InputRead<'a>, fault: BenchFault) -> Advised<'a> {
-        Advised { reading, fault }
+    pub fn of(reading: InputRead<'a>, fault: BenchFault) -> FaultMessage<'a> {
+        FaultMessage { reading, fault }
     }
 
     /// Where the fault is.
@@ -64,7 +64,7 @@ impl<'a> Advised<'a> {
 }
 
 /// Where it is, the fault's name, and the words.
-impl fmt::Display for Advised<'_> {
+impl fmt::Display for FaultMessage<'_> {
     fn fmt<W: fmt::Write>(&self, f: &mut fmt::Formatter<W>) -> fmt::Result {
         let InputRead { command, bytes, .. } = self.reading;
         write!(f, "{}: ", self.origin())?;

@@ -1,9 +1,9 @@
 //! How far an order of logs comes, and what the table gives where the next lines do not fit.
 
-use crate::again::{make_again, scenario_part};
 use crate::excerpt::Excerpt;
 use crate::explained::go_on;
 use crate::origin::Origin;
+use crate::rerun::{make_again, scenario_part};
 use crate::summary::Count;
 use std::alloc::{AllocError, Global};
 use std::fmt;

@@ -2,20 +2,20 @@
 //! proved of the words but that each function is safe and ends.
 #![tactic(auto)]
 
-pub mod advised;
-pub mod again;
-pub mod commands;
+mod attempts;
+pub mod bad_commands;
 pub mod excerpt;
 pub mod explained;
 pub mod failure;
+pub mod fault_message;
 pub mod furthest;
 pub mod listing;
-pub mod marked;
-pub mod nothing;
+pub mod no_effect;
 pub mod origin;
 pub mod progress;
+pub mod refused_goal;
 pub mod refused_line;
 pub mod refused_object;
+pub mod rerun;
 pub mod summary;
-mod tally;
 pub mod way_out;

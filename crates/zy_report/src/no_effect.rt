@@ -1,6 +1,6 @@
 //! Runs of which nothing came: of all choices, or of those of a transaction.
 
-use crate::tally::{Doubtful, Tallies};
+use crate::attempts::{AttemptsByTxn, Doubtful};
 use std::fmt;
 use zy_isa::Node;
 use zy_machine::Machine;
@@ -85,14 +85,14 @@ impl Stalled {
         if doubtful.is_empty() {
             return None;
         }
-        let tallies = Tallies::of(machine, doubtful);
-        let cause = clearest(machine, &tallies)?;
+        let attempts = AttemptsByTxn::of(machine, doubtful);
+        let cause = clearest(machine, &attempts)?;
         let mut stalled = Stalled::new(cause);
         for t in 0..machine.txn_count() {
             let txn = machine.txn(t as u8);
-            let tally = tallies.of_txn(t);
-            if tally.cause(txn.status(), txn.node()) == Some(cause) {
-                stalled.take(t, tally.still_for(cause));
+            let of_txn = attempts.of_txn(t);
+            if of_txn.cause(txn.status(), txn.node()) == Some(cause) {
+                stalled.take(t, of_txn.still_for(cause));
             }
         }
         Some(stalled)
@@ -144,11 +144,11 @@ pub fn tell_number<W: fmt::Write>(
 }
 
 /// The clearest reason why nothing came of the steps of a transaction.
-fn clearest(machine: &Machine, tallies: &Tallies) -> Option<Cause> {
+fn clearest(machine: &Machine, attempts: &AttemptsByTxn) -> Option<Cause> {
     let mut clearest: Option<Cause> = None;
     for t in 0..machine.txn_count() {
         let txn = machine.txn(t as u8);
-        if let Some(cause) = tallies.of_txn(t).cause(txn.status(), txn.node()) {
+        if let Some(cause) = attempts.of_txn(t).cause(txn.status(), txn.node()) {
             if clearest.is_none_or(|other| cause.rank() < other.rank()) {
                 clearest = Some(cause);
             }
@@ -201,25 +201,25 @@ enum Reason {
 
 /// How many choices did nothing, and why.
 #[derive(Clone, Copy)]
-pub struct Nothing {
+pub struct NoEffect {
     /// How many choices there were.
     count: usize,
     reason: Reason,
 }
 
-impl Nothing {
+impl NoEffect {
     /// What to say of a run: something where nothing came of the steps of a transaction, or else of all choices.
-    pub fn of(machine: &Machine) -> Option<Nothing> {
+    pub fn of(machine: &Machine) -> Option<NoEffect> {
         let reason = match Stalled::of(machine) {
             Some(stalled) => Reason::Stalled(stalled),
             None => Reason::Idling(Idling::of(machine)?),
         };
         let count = machine.entries().len();
-        Some(Nothing { count, reason })
+        Some(NoEffect { count, reason })
     }
 }
 
-impl fmt::Display for Nothing {
+impl fmt::Display for NoEffect {
     fn fmt<W: fmt::Write>(&self, f: &mut fmt::Formatter<W>) -> fmt::Result {
         let still = match &self.reason {
             Reason::Stalled(stalled) => stalled.still,

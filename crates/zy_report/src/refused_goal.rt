@@ -7,16 +7,16 @@ use zy_queries::WordFault;
 
 /// A goal that is rejected, and the word that does not fit.
 #[derive(Clone, Copy)]
-pub struct Marked<'a> {
+pub struct RefusedGoal<'a> {
     text: &'a str,
     is_always: bool,
     refusal: WordFault,
 }
 
-impl<'a> Marked<'a> {
+impl<'a> RefusedGoal<'a> {
     /// Why the text behind `--always`, or else `--for`, is no goal.
-    pub fn of(text: &'a str, is_always: bool, refusal: WordFault) -> Marked<'a> {
-        Marked {
+    pub fn of(text: &'a str, is_always: bool, refusal: WordFault) -> RefusedGoal<'a> {
+        RefusedGoal {
             text,
             is_always,
             refusal,
@@ -25,7 +25,7 @@ impl<'a> Marked<'a> {
 }
 
 /// The flag, what is expected, and the text of the goal with the word at fault marked. `>` and `<` are words of goals.
-impl fmt::Display for Marked<'_> {
+impl fmt::Display for RefusedGoal<'_> {
     fn fmt<W: fmt::Write>(&self, f: &mut fmt::Formatter<W>) -> fmt::Result {
         let WordFault { from, to, expected } = self.refusal;
         let text = self.text.as_bytes();

@@ -1,4 +1,4 @@
-//! Repeats a run for a message about it.
+//! Reads an input again, and makes its run again, for a message about it.
 
 use crate::listing::LineKept;
 use std::alloc::Global;
@@ -14,11 +14,14 @@ pub fn scenario_part(input: &[u8]) -> &[u8] {
     part
 }
 
-/// How many transactions and choices a scenario has, and how many pages it may have.
+/// How large a scenario is.
 #[derive(Clone, Copy)]
 pub struct Extent {
+    /// How many transactions it has.
     pub txns: usize,
+    /// How many pages it may come to have.
     pub pages: usize,
+    /// How many choices it has, each repetition counted.
     pub choices: usize,
 }
 
