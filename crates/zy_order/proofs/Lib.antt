@@ -5,6 +5,7 @@ pub mod OrderLemmas
 pub mod LineLemmas
 pub mod AnswerLemmas
 pub mod AloneLemmas
+pub mod RecentLemmas
 pub mod ReachLemmas
 pub mod PushLemmas
 pub mod LoopLemmas

@@ -18,7 +18,8 @@ use Rattle.zy_logs.specs.Agrees.{Agrees}
 use Rattle.zy_logs.specs.declared.log_line.LogLine.{LogLine}
 use Rattle.zy_search.specs.Searches.{reached}
 use Rattle.zy_machine.specs.Histories.{History}
-use Rattle.zy_search.specs.Visits.{path_at, IsSpot, IsShelf}
+use Rattle.zy_search.specs.Visits.{path_at}
+use Rattle.zy_order.specs.Recent.{IsRecentMachine, AreRecentMachines}
 use Rattle.zy_search.specs.Choices.{is_considered, considered}
 use Rattle.zy_search.proofs.ChoiceLemmas.{has_considered}
 use Rattle.zy_search.proofs.MeetLemmas.{is_one}
@@ -44,7 +45,7 @@ use Rattle.zy_order.proofs.ReachLemmas.{extends_same, tried_on, followed_on}
 
 -- A search begins: the empty path alone is reached, and is to be followed.
 module _ (p : Plan) (s : Search) (plan : IsPlan p) (paths : s.reached.visited ≡ [] ∷ []) (cursors : s.reached.cursors.items ≡ at_start ∷ [])
-    (todo : s.reached.todo.items ≡ 0 ∷ []) (spots : s.shelf.spots.items ≡ []) (spare : s.shelf.spare ≡ p.start) (twin : s.twin ≡ p.start) where
+    (todo : s.reached.todo.items ≡ 0 ∷ []) (machines : s.recent.machines.items ≡ []) (spare : s.recent.spare ≡ p.start) (twin : s.twin ≡ p.start) where
   -- there is one path
   one : length s.reached.visited ≡ 1
   one = ap (λ (ps : List (List Choice)). length ps) paths
@@ -86,10 +87,10 @@ module _ (p : Plan) (s : Search) (plan : IsPlan p) (paths : s.reached.visited �
     there = first_todo;
   }
 
-  -- the shelf is empty
-  first_shelf : IsShelf p.start s.reached.visited s.shelf
-  first_shelf = record {
-    spots = subst (All (IsSpot p.start s.reached.visited)) (sym spots) (λ k d lt. absurd (omega (arith, lt)));
+  -- the recent is empty
+  first_recent : AreRecentMachines p.start s.reached.visited s.recent
+  first_recent = record {
+    machines = subst (All (IsRecentMachine p.start s.reached.visited)) (sym machines) (λ k d lt. absurd (omega (arith, lt)));
     spare = ap (λ (m : History). m.scenario) spare;
   }
 
@@ -98,7 +99,7 @@ module _ (p : Plan) (s : Search) (plan : IsPlan p) (paths : s.reached.visited �
   begins = record {
     search = record {
       under_way = record { plan = plan; reached = first_reached };
-      shelf = first_shelf;
+      recent = first_recent;
       twin = ap (λ (m : History). m.scenario) twin;
     };
     followed = λ i lt.

@@ -16,10 +16,11 @@ use Rattle.zy_logs.specs.Agrees.{Agrees}
 use Rattle.zy_logs.specs.declared.log_line.LogLine.{LogLine}
 use Rattle.zy_machine.specs.Histories.{History}
 use Rattle.zy_search.specs.Searches.{reached}
-use Rattle.zy_search.specs.Visits.{path_at, Grows, IsHere, IsShelf}
-use Rattle.zy_search.specs.declared.shelf.Shelf.{Shelf}
+use Rattle.zy_search.specs.Visits.{path_at, Grows, IsHere}
+use Rattle.zy_order.specs.Recent.{AreRecentMachines}
+use Rattle.zy_order.specs.declared.recent_machines.RecentMachines.{RecentMachines}
 use Rattle.zy_search.proofs.SearchLemmas.{reached_more, grows_push, before_it, it, old_or_new}
-use Rattle.zy_search.proofs.ShelfLemmas.{here_grown, shelf_grown}
+use Rattle.zy_order.proofs.RecentLemmas.{here_grown, recent_grown}
 use Rattle.zy_order.specs.declared.logs.Logs.{Logs}
 use Rattle.zy_order.specs.declared.cursors.Cursors.{Cursors}
 use Rattle.zy_order.specs.declared.plan.Plan.{Plan}
@@ -29,7 +30,7 @@ use Rattle.zy_order.specs.declared.search.Position.{Position}
 use Rattle.zy_order.specs.Orders.{entry_at}
 use Rattle.zy_order.specs.Ways.{log_of, cursor, at_start, cursors_in, advanced, NeedNoMore, Leads}
 use Rattle.zy_order.specs.Reaches.{cursors_at, entry_by, state_by, IsKnown, IsReached, IsUnderWay, IsSearch, IsWayOf}
-use Rattle.zy_order.specs.Reaches.{IsAt, StandsAt, IsNext, GoesOn, Adds, Reshelves}
+use Rattle.zy_order.specs.Reaches.{IsAt, StandsAt, IsNext, GoesOn, Adds, KeepsOthers}
 use Rattle.zy_order.proofs.NeedLemmas.{need_self}
 use Rattle.zy_order.proofs.WayLemmas.{way_push}
 use Rattle.zy_order.proofs.ReachLemmas.{extends_on, extends_same}
@@ -141,15 +142,15 @@ module _ (s : Search) (here : Position) (c : Choice) (to : Cursors) (on : GoesOn
         entries = omega (arith, on.next.longer, n, length-append (path_at r.visited here.at) (c ∷ []));
       }
 
-  -- what the path adds, where the twin is put on the shelf for another machine
-  pub adds_new : (place : ℕ) (shelf : Shelf) (m : History) → place ≡ length r.visited → m.scenario ≡ p.start.scenario
-      → (IsShelf p.start new.visited s.shelf → place < length new.visited → IsHere p.start new.visited place s.twin → IsShelf p.start new.visited shelf)
-      → Adds p s (record { reached = new; shelf = shelf; twin = m })
-  adds_new place shelf m e scenario put = record {
+  -- what the path adds, where the twin is put on the recent for another machine
+  pub adds_new : (place : ℕ) (recent : RecentMachines) (m : History) → place ≡ length r.visited → m.scenario ≡ p.start.scenario
+      → (AreRecentMachines p.start new.visited s.recent → place < length new.visited → IsHere p.start new.visited place s.twin → AreRecentMachines p.start new.visited recent)
+      → Adds p s (record { reached = new; recent = recent; twin = m })
+  adds_new place recent m e scenario put = record {
     search = record {
       under_way = record { plan = on.at.search.under_way.plan; reached = reached_push };
-      shelf =
-          put (shelf_grown p.start r.visited new.visited s.shelf grows_new on.at.search.shelf) (omega (arith, e, longer)) (twin_there place e);
+      recent =
+          put (recent_grown p.start r.visited new.visited s.recent grows_new on.at.search.recent) (omega (arith, e, longer)) (twin_there place e);
       twin = scenario;
     };
     extends = record { paths = grows_new; cursors = old_cursors };
@@ -203,7 +204,7 @@ stands_on p s t at m adds is = record {
 
 -- a search may have another machine of the scenario for its twin
 pub search_twin : (p : Plan) (s : Search) (m : History) → IsSearch p s → m.scenario ≡ p.start.scenario → IsSearch p (record s { twin = m })
-search_twin p s m is scenario = record { under_way = is.under_way; shelf = is.shelf; twin = scenario }
+search_twin p s m is scenario = record { under_way = is.under_way; recent = is.recent; twin = scenario }
 
 -- it adds nothing
 pub adds_twin : (p : Plan) (s : Search) (m : History) → IsSearch p s → m.scenario ≡ p.start.scenario → Adds p s (record s { twin = m })
@@ -251,39 +252,39 @@ line_leads count l g e x line to next own choice agrees there =
       there ∙ ap (λ (y : Actor). advanced y g) same,
     )
 
--- ---- another shelf
+-- ---- another recent
 
--- a search may have another shelf
-pub search_taken : (p : Plan) (s : Search) (shelf : Shelf) → IsSearch p s → IsShelf p.start s.reached.visited shelf → IsSearch p (record s { shelf = shelf })
-search_taken p s shelf is there = record { under_way = is.under_way; shelf = there; twin = is.twin }
+-- a search may have another recent
+pub search_taken : (p : Plan) (s : Search) (recent : RecentMachines) → IsSearch p s → AreRecentMachines p.start s.reached.visited recent → IsSearch p (record s { recent = recent })
+search_taken p s recent is there = record { under_way = is.under_way; recent = there; twin = is.twin }
 
 -- it adds nothing
-pub adds_taken : (p : Plan) (s : Search) (shelf : Shelf) → IsSearch p s → IsShelf p.start s.reached.visited shelf → Adds p s (record s { shelf = shelf })
-adds_taken p s shelf is there = adds_none p s (record s { shelf = shelf }) (search_taken p s shelf is there) refl
+pub adds_taken : (p : Plan) (s : Search) (recent : RecentMachines) → IsSearch p s → AreRecentMachines p.start s.reached.visited recent → Adds p s (record s { recent = recent })
+adds_taken p s recent is there = adds_none p s (record s { recent = recent }) (search_taken p s recent is there) refl
 
--- a shelf is changed, and then again
-pub reshelves_on : (p : Plan) (r s t : Search) → Reshelves p r s → Reshelves p s t → Reshelves p r t
-reshelves_on p r s t x y = record { reached = y.reached ∙ x.reached; twin = y.twin ∙ x.twin; shelf = y.shelf }
+-- a recent is changed, and then again
+pub keeps_others_on : (p : Plan) (r s t : Search) → KeepsOthers p r s → KeepsOthers p s t → KeepsOthers p r t
+keeps_others_on p r s t x y = record { reached = y.reached ∙ x.reached; twin = y.twin ∙ x.twin; recent = y.recent }
 
--- a search with another shelf is one
-pub search_shelf : (p : Plan) (s t : Search) → Reshelves p s t → IsSearch p s → IsSearch p t
-search_shelf p s t new is = record {
+-- a search with another recent is one
+pub search_recent : (p : Plan) (s t : Search) → KeepsOthers p s t → IsSearch p s → IsSearch p t
+search_recent p s t new is = record {
   under_way = subst (IsUnderWay p) (sym new.reached) is.under_way;
-  shelf = new.shelf;
+  recent = new.recent;
   twin = ap (λ (m : History). m.scenario) new.twin ∙ is.twin;
 }
 
 -- it adds nothing
-pub adds_shelf : (p : Plan) (s t : Search) → Reshelves p s t → IsSearch p s → Adds p s t
-adds_shelf p s t new is = adds_none p s t (search_shelf p s t new is) new.reached
+pub adds_recent : (p : Plan) (s t : Search) → KeepsOthers p s t → IsSearch p s → Adds p s t
+adds_recent p s t new is = adds_none p s t (search_recent p s t new is) new.reached
 
 -- it goes on as before
-pub goes_on_shelf : (s t : Search) (here : Position) (c : Choice) (to : Cursors) → Reshelves here.plan.now s t → GoesOn s here c to → GoesOn t here c to
-goes_on_shelf s t here c to new on =
+pub goes_on_recent : (s t : Search) (here : Position) (c : Choice) (to : Cursors) → KeepsOthers here.plan.now s t → GoesOn s here c to → GoesOn t here c to
+goes_on_recent s t here c to new on =
     let p = here.plan.now in
     let h = p.start in
     record {
-      at = stands_on p s t here.at here.machine.now (adds_shelf p s t new on.at.search) on.at;
+      at = stands_on p s t here.at here.machine.now (adds_recent p s t new on.at.search) on.at;
       leads =
           subst (λ (r : Reached). Leads (length h.scenario.programs) p.logs (cursors_at r here.at) (entry_by h r here.at c) to) (sym new.reached) on.leads;
       next =
@@ -292,8 +293,8 @@ goes_on_shelf s t here c to new on =
     }
 
 -- what was known of its twin is known
-pub known_shelf : (p : Plan) (s t : Search) (to : Cursors) → Reshelves p s t → IsKnown p.start t.reached to t.twin.state
+pub known_recent : (p : Plan) (s t : Search) (to : Cursors) → KeepsOthers p s t → IsKnown p.start t.reached to t.twin.state
     → IsKnown p.start s.reached to s.twin.state
-known_shelf p s t to new known =
+known_recent p s t to new known =
     subst (λ (r : Reached). IsKnown p.start r to s.twin.state) new.reached
     (subst (λ (m : History). IsKnown p.start t.reached to m.state) new.twin known)

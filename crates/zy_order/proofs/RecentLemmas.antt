@@ -1,13 +1,14 @@
--- What stays true of a shelf.
+-- What stays true of a recent.
 use Rattle.std.specs.List.{All}
 use Rattle.std.proofs.Common.{◌∙◌, ℕ, zero, suc, ◌<◌, List, [], ◌∷◌, length, sym, ap, arith, Option, None, Some}
 use Rattle.std.proofs.Common.{IfSome, Result, Ok, Err, OnOk}
 use Rattle.zy_isa.specs.declared.choice.Choice.{Choice}
 use Rattle.zy_machine.specs.Histories.{History}
-use Rattle.zy_search.specs.declared.shelf.Spot.{Spot}
-use Rattle.zy_search.specs.declared.shelf.Shelf.{Shelf}
+use Rattle.zy_order.specs.declared.recent_machines.RecentMachine.{RecentMachine}
+use Rattle.zy_order.specs.declared.recent_machines.RecentMachines.{RecentMachines}
 use Rattle.zy_search.specs.Searches.{reached}
-use Rattle.zy_search.specs.Visits.{IsHere, IsSpot, IsShelf, Grows}
+use Rattle.zy_search.specs.Visits.{IsHere, Grows}
+use Rattle.zy_order.specs.Recent.{IsRecentMachine, AreRecentMachines}
 
 -- what holds in any case holds where a call succeeds
 pub in_any_case : {X E : Type 0} (P : Type 0) (r : Result X E) → P → OnOk r P
@@ -22,20 +23,20 @@ here_grown h ps qs at m g lt x = record {
   entries = omega (arith, x.entries, ap (λ (p : List Choice). length p) (g.same at lt));
 }
 
--- so is that of a spot, if it has one
+-- so is that of a kept, if it has one
 named_grown : (h : History) (ps qs : List (List Choice)) (m : History) (o : Option ℕ) → Grows ps qs → IfSome o (λ at. (at < length ps) × IsHere h ps at m)
     → IfSome o (λ at. (at < length qs) × IsHere h qs at m)
 named_grown h ps qs m None g x = tt
 named_grown h ps qs m (Some at) g x = (omega (arith, x.0, g.longer), here_grown h ps qs at m g x.0 x.1)
 
 -- paths are added
-pub shelf_grown : (h : History) (ps qs : List (List Choice)) (s : Shelf) → Grows ps qs → IsShelf h ps s → IsShelf h qs s
-shelf_grown h ps qs s g x = record {
-  spots = λ k d lt. let spot = x.spots k d lt in record { scenario = spot.scenario; here = named_grown h ps qs _ _ g spot.here };
+pub recent_grown : (h : History) (ps qs : List (List Choice)) (s : RecentMachines) → Grows ps qs → AreRecentMachines h ps s → AreRecentMachines h qs s
+recent_grown h ps qs s g x = record {
+  machines = λ k d lt. let kept = x.machines k d lt in record { scenario = kept.scenario; here = named_grown h ps qs _ _ g kept.here };
   spare = x.spare;
 }
 
--- one spot alone
-pub one_spot : (h : History) (ps : List (List Choice)) (spot : Spot) → IsSpot h ps spot → All (IsSpot h ps) (spot ∷ [])
-one_spot h ps spot is zero d lt = is
-one_spot h ps spot is (suc k) d lt = absurd (omega (arith, lt))
+-- one kept alone
+pub one_machine : (h : History) (ps : List (List Choice)) (kept : RecentMachine) → IsRecentMachine h ps kept → All (IsRecentMachine h ps) (kept ∷ [])
+one_machine h ps kept is zero d lt = is
+one_machine h ps kept is (suc k) d lt = absurd (omega (arith, lt))

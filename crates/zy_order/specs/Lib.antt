@@ -2,4 +2,5 @@ pub mod Gaps
 pub mod Orders
 pub mod Ways
 pub mod Answers
+pub mod Recent
 pub mod Reaches

@@ -19,7 +19,8 @@ use Rattle.zy_logs.specs.declared.log_line.LogLine.{LogLine}
 use Rattle.zy_search.specs.declared.kinds.ChoiceKinds.{ChoiceKinds}
 use Rattle.zy_search.specs.Choices.{considered}
 use Rattle.zy_search.specs.Searches.{reached}
-use Rattle.zy_search.specs.Visits.{path_at, length_at, Grows, IsHere, IsShelf}
+use Rattle.zy_search.specs.Visits.{path_at, length_at, Grows, IsHere}
+use Rattle.zy_order.specs.Recent.{AreRecentMachines}
 use Rattle.zy_order.specs.declared.logs.Logs.{Logs}
 use Rattle.zy_order.specs.declared.cursors.Cursors.{Cursors}
 use Rattle.zy_order.specs.declared.plan.Plan.{Plan}
@@ -93,10 +94,10 @@ pub record IsUnderWay (p : Plan) (r : Reached) : Type 0 where
   pub plan : IsPlan p
   pub reached : IsReached p r
 
--- a search is under way, with machines of the plan's scenario: each of its shelf is where the path leads that it names
+-- a search is under way, with machines of the plan's scenario: each of its recent is where the path leads that it names
 pub record IsSearch (p : Plan) (s : Search) : Type 0 where
   pub under_way : IsUnderWay p s.reached
-  pub shelf : IsShelf p.start s.reached.visited s.shelf
+  pub recent : AreRecentMachines p.start s.reached.visited s.recent
   pub twin : s.twin.scenario ≡ p.start.scenario
 
 -- no path leads further than that at a place
@@ -257,11 +258,11 @@ pub record Adds (p : Plan) (old new : Search) : Type 0 where
   pub more : (i : ℕ) → length old.reached.visited ≤ i → i < length new.reached.visited → Contains new.reached.todo.items i
   pub still : (i : ℕ) → Contains old.reached.todo.items i → Contains new.reached.todo.items i
 
--- a search went from old to new, and nothing but its shelf is another
-pub record Reshelves (p : Plan) (old new : Search) : Type 0 where
+-- a search went from old to new, and nothing but its recent is another
+pub record KeepsOthers (p : Plan) (old new : Search) : Type 0 where
   pub reached : new.reached ≡ old.reached
   pub twin : new.twin ≡ old.twin
-  pub shelf : IsShelf p.start new.reached.visited new.shelf
+  pub recent : AreRecentMachines p.start new.reached.visited new.recent
 
 -- ---- what comes of it
 

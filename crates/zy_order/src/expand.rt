@@ -65,7 +65,7 @@ impl Search {
         ensures adds { OnOk result (Adds plan.now self.old self.new) }
         ensures there { OnOk result (StandsAt plan.now self.new at machine.new) }
     {
-        if self.shelf.take(at, machine) && machine.len() < MAX_CHOICES {
+        if self.recent.take(at, machine) && machine.len() < MAX_CHOICES {
             return Ok(());
         }
         go_to(plan, &self.reached, at, machine)

@@ -5,6 +5,7 @@ mod alone;
 pub mod answer;
 mod attempt;
 mod cursors;
+mod digest;
 mod expand;
 mod follow;
 pub mod gaps;
@@ -15,8 +16,10 @@ mod note;
 pub mod order;
 mod plan;
 mod reached;
+mod recent_machines;
 mod search;
 mod turns;
+mod visited;
 mod walk;
 
 pub use crate::answer::{OrderAnswer, OrderReport, Taken};

@@ -2,16 +2,16 @@
 ghost use Rattle.std.specs.Prelude.{◌≡◌, ◌<◌, ◌+◌, ◌^◌, IfOk, OnOk, None, true, length};
 ghost use Rattle.zy_search.specs.Searches as searches;
 ghost use Rattle.zy_search.specs.Visits.{path_at};
-ghost use Rattle.zy_order.specs.Reaches.{state_by, IsKnown, IsSearch, Adds, GoesOn, Reshelves};
+ghost use Rattle.zy_order.specs.Reaches.{state_by, IsKnown, IsSearch, Adds, GoesOn, KeepsOthers};
 
 use crate::cursors::Cursors;
+use crate::digest::digest;
 use crate::plan::Plan;
 use crate::search::{Position, Search};
 use crate::walk::go_to;
 use zy_isa::Choice;
 use zy_machine::{Fault, Machine};
 use zy_search::branch::Branch;
-use zy_search::digest::digest;
 
 /// How many states with one digest are kept; more of them cost time and memory, and nothing else.
 const MOST_PER_DIGEST: u64 = 8;
@@ -31,13 +31,13 @@ impl Search {
         requires there { at < length self.old.reached.visited }
         ensures known { IfOk result (λ b. b ≡ true
             → searches.reached plan.now.start (path_at self.old.reached.visited at) ≡ self.old.twin.state) }
-        ensures keeps { OnOk result (Reshelves plan.now self.old self.new) }
+        ensures keeps { OnOk result (KeepsOthers plan.now self.old self.new) }
     {
-        if let Some(same) = self.shelf.compares(at, &self.twin) {
+        if let Some(same) = self.recent.compares(at, &self.twin) {
             return Ok(same);
         }
-        go_to(plan, &self.reached, at, &mut self.shelf.spare)?;
-        Ok(self.shelf.spare.is_same(&self.twin))
+        go_to(plan, &self.reached, at, &mut self.recent.spare)?;
+        Ok(self.recent.spare.is_same(&self.twin))
     }
 
     /// Whether the path that is put under a digest leads to the twin's state, with these cursors.
@@ -45,7 +45,7 @@ impl Search {
         requires { IsSearch plan.now self.old }
         ensures known { IfOk result (λ b. b ≡ true → IsKnown plan.now.start self.old.reached cursors
             self.old.twin.state) }
-        ensures keeps { OnOk result (Reshelves plan.now self.old self.new) }
+        ensures keeps { OnOk result (KeepsOthers plan.now self.old self.new) }
     {
         let Some(at) = self.reached.visited.find(digest) else {
             return Ok(false);
@@ -63,7 +63,7 @@ impl Search {
         requires { IsSearch plan.now self.old }
         ensures known { IfOk result (λ free. free ≡ None → IsKnown plan.now.start self.old.reached cursors
             self.old.twin.state) }
-        ensures keeps { OnOk result (Reshelves plan.now self.old self.new) }
+        ensures keeps { OnOk result (KeepsOthers plan.now self.old self.new) }
     {
         let first = digest_of(cursors, &self.twin);
         for k in 0..MOST_PER_DIGEST {
@@ -96,7 +96,7 @@ impl Search {
         let place = self.reached.visited.len() as u32;
         let branch = Branch { from: here.at, by };
         self.reached.push(branch, cursors, digest)?;
-        self.shelf
+        self.recent
             .put(here.plan.alloc, place, &mut self.twin, here.machine)?;
         Ok(())
     }

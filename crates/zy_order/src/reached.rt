@@ -4,10 +4,10 @@ ghost use Rattle.zy_search.specs.Visits.{path_at};
 ghost use Rattle.zy_order.specs.Ways.{at_start, cursors_in};
 
 use crate::cursors::Cursors;
+use crate::visited::Visited;
 use std::alloc::{AllocError, Global};
 use zy_isa::Choice;
 use zy_search::branch::Branch;
-use zy_search::visited::Visited;
 
 /// A path to each state that was reached, with the cursors there, and the places of the paths that are still to be
 /// followed.

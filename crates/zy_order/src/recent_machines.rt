@@ -3,9 +3,10 @@
 ghost use Rattle.std.specs.Prelude.{◌≡◌, ◌<◌, List, [], IfOk, IfSome, OnOk, Some, true, length, slice_index_or};
 ghost use Rattle.zy_isa.specs.declared.choice.Choice.{Choice};
 ghost use Rattle.zy_machine.specs.Histories.{History};
-ghost use Rattle.zy_search.specs.declared.shelf.Spot.{Spot as ASpot};
+ghost use Rattle.zy_order.specs.declared.recent_machines.RecentMachine.{RecentMachine as ARecentMachine};
 ghost use Rattle.zy_search.specs.Searches.{reached};
-ghost use Rattle.zy_search.specs.Visits.{path_at, IsHere, IsShelf};
+ghost use Rattle.zy_search.specs.Visits.{path_at, IsHere};
+ghost use Rattle.zy_order.specs.Recent.{AreRecentMachines};
 
 use std::alloc::Global;
 use std::mem;
@@ -13,29 +14,34 @@ use zy_machine::{Fault, Machine};
 
 /// A machine, and the place of the path that leads to its state; none where that is not known.
 #[derive(Drop)]
-pub struct Spot {
+pub struct RecentMachine {
     machine: Machine,
     at: Option<u32>,
 }
 
 /// Machines where some of the last paths lead, and a scratch machine.
 #[derive(Drop)]
-pub struct Shelf {
-    spots: Vec<Spot>,
+pub struct RecentMachines {
+    machines: Vec<RecentMachine>,
     most: usize,
     steps: usize,
     pub spare: Machine,
 }
 
-impl Shelf {
+impl RecentMachines {
     /// No machine but the scratch machine, with room for `most` machines, each of which may have made `steps` steps.
-    pub fn sized(alloc: Global, start: &Machine, most: usize, steps: usize) -> Result<Shelf, Fault>
-        ensures spots { IfOk result (λ s. s.spots.items ≡ []) }
+    pub fn sized(
+        alloc: Global,
+        start: &Machine,
+        most: usize,
+        steps: usize,
+    ) -> Result<RecentMachines, Fault>
+        ensures machines { IfOk result (λ s. s.machines.items ≡ []) }
         ensures spare { IfOk result (λ s. s.spare ≡ start.now) }
     {
         let spare = start.copy(alloc)?;
-        Ok(Shelf {
-            spots: Vec::new(alloc),
+        Ok(RecentMachines {
+            machines: Vec::new(alloc),
             most,
             steps,
             spare,
@@ -43,17 +49,17 @@ impl Shelf {
     }
 
     /// Where the machine of the path at a place would be. That of the empty path is never there.
-    fn spot_of(&self, at: u32) -> usize {
+    fn slot_of(&self, at: u32) -> usize {
         at.saturating_sub(1) as usize % self.most.max(1)
     }
 
     /// Where the machine of the path at a place is, if there is one.
     fn find(&self, at: u32) -> Option<usize>
-        ensures there { IfSome result (λ i. i < length self.now.spots.items) }
-        ensures at { IfSome result (λ i. (d : ASpot) → (slice_index_or self.now.spots.items i d).at ≡ Some at) }
+        ensures there { IfSome result (λ i. i < length self.now.machines.items) }
+        ensures at { IfSome result (λ i. (d : ARecentMachine) → (slice_index_or self.now.machines.items i d).at ≡ Some at) }
     {
-        let i = self.spot_of(at);
-        if i < self.spots.len() && self.spots[i].at == Some(at) {
+        let i = self.slot_of(at);
+        if i < self.machines.len() && self.machines[i].at == Some(at) {
             return Some(i);
         }
         None
@@ -61,28 +67,28 @@ impl Shelf {
 
     /// Whether the state of the machine of the path at a place is that of another one, if it is there.
     pub fn compares(&self, at: u32, machine: &Machine) -> Option<bool>
-        ensures { (h : History) (ps : List (List Choice)) → IsShelf h ps self.now → result ≡ Some true
+        ensures { (h : History) (ps : List (List Choice)) → AreRecentMachines h ps self.now → result ≡ Some true
             → reached h (path_at ps at) ≡ machine.now.state }
     {
         let i = self.find(at)?;
-        Some(self.spots[i].machine.is_same(machine))
+        Some(self.machines[i].machine.is_same(machine))
     }
 
     /// Takes the machine where the path at a place leads, if there is one, and leaves another one there.
     pub fn take(&mut self, at: u32, machine: &mut Machine) -> bool
-        ensures here { (h : History) (ps : List (List Choice)) → IsShelf h ps self.old → result ≡ true
+        ensures here { (h : History) (ps : List (List Choice)) → AreRecentMachines h ps self.old → result ≡ true
             → IsHere h ps at machine.new }
-        ensures scenario { (h : History) (ps : List (List Choice)) → IsShelf h ps self.old
+        ensures scenario { (h : History) (ps : List (List Choice)) → AreRecentMachines h ps self.old
             → machine.old.scenario ≡ h.scenario → machine.new.scenario ≡ h.scenario }
-        ensures shelf { (h : History) (ps : List (List Choice)) → IsShelf h ps self.old
-            → machine.old.scenario ≡ h.scenario → IsShelf h ps self.new }
+        ensures recent { (h : History) (ps : List (List Choice)) → AreRecentMachines h ps self.old
+            → machine.old.scenario ≡ h.scenario → AreRecentMachines h ps self.new }
     {
         let Some(i) = self.find(at) else {
             return false;
         };
-        let spot = &mut self.spots[i];
-        mem::swap(&mut spot.machine, machine);
-        spot.at = None;
+        let kept = &mut self.machines[i];
+        mem::swap(&mut kept.machine, machine);
+        kept.at = None;
         true
     }
 
@@ -96,20 +102,20 @@ impl Shelf {
         here: &Machine,
     ) -> Result<bool, Fault>
         requires { machine.old.scenario ≡ here.now.scenario }
-        ensures scenario { OnOk result ((h : History) (ps : List (List Choice)) → IsShelf h ps self.old
+        ensures scenario { OnOk result ((h : History) (ps : List (List Choice)) → AreRecentMachines h ps self.old
             → machine.old.scenario ≡ h.scenario → machine.new.scenario ≡ h.scenario) }
         ensures back { IfOk result (λ b. b ≡ true → machine.new ≡ here.now) }
-        ensures shelf { OnOk result ((h : History) (ps : List (List Choice)) → IsShelf h ps self.old → at < length ps
-            → IsHere h ps at machine.old → IsShelf h ps self.new) }
+        ensures recent { OnOk result ((h : History) (ps : List (List Choice)) → AreRecentMachines h ps self.old → at < length ps
+            → IsHere h ps at machine.old → AreRecentMachines h ps self.new) }
     {
         if machine.len() > self.steps {
             return Ok(false);
         }
-        let i = self.spot_of(at);
-        if i < self.spots.len() {
-            let spot = &mut self.spots[i];
-            mem::swap(&mut spot.machine, machine);
-            spot.at = Some(at);
+        let i = self.slot_of(at);
+        if i < self.machines.len() {
+            let kept = &mut self.machines[i];
+            mem::swap(&mut kept.machine, machine);
+            kept.at = Some(at);
             return Ok(false);
         }
         let fresh = here.copy(alloc)?;
@@ -120,16 +126,16 @@ impl Shelf {
 
     /// Adds the machine of the path at a place.
     fn add(&mut self, at: u32, machine: Machine) -> Result<(), Fault>
-        ensures { OnOk result ((h : History) (ps : List (List Choice)) → IsShelf h ps self.old → at < length ps
-            → IsHere h ps at machine → IsShelf h ps self.new) }
+        ensures { OnOk result ((h : History) (ps : List (List Choice)) → AreRecentMachines h ps self.old → at < length ps
+            → IsHere h ps at machine → AreRecentMachines h ps self.new) }
     {
-        match self.spots.reserve(1) {
+        match self.machines.reserve(1) {
             Ok(()) => {
-                let spot = Spot {
+                let kept = RecentMachine {
                     machine,
                     at: Some(at),
                 };
-                self.spots.push_reserved(spot);
+                self.machines.push_reserved(kept);
                 Ok(())
             }
             Err(fault) => {

@@ -6,12 +6,12 @@ use crate::cursors::Cursors;
 use crate::note::digest_of;
 use crate::plan::Plan;
 use crate::reached::Reached;
+use crate::recent_machines::RecentMachines;
 use zy_isa::MAX_CHOICES;
 use zy_machine::{Fault, Machine};
-use zy_search::shelf::Shelf;
 
 /// How many machines are kept where the last paths lead.
-const MOST_SPOTS: usize = 64;
+const MOST_MACHINES: usize = 64;
 
 /// What a search holds: the paths that it has reached, and machines to go on by.
 #[derive(Drop)]
@@ -19,7 +19,7 @@ pub(crate) struct Search {
     /// What it has reached.
     pub reached: Reached,
     /// Machines where some of the paths lead.
-    pub shelf: Shelf,
+    pub recent: RecentMachines,
     /// A scratch machine, which makes one choice more than a path.
     pub twin: Machine,
 }
@@ -35,15 +35,15 @@ pub(crate) struct Position<'a> {
     pub machine: &'a Machine,
 }
 
-/// The scratch machine of a search by a plan, and a shelf with no machine but its own.
-fn machines_of(plan: &Plan) -> Result<(Machine, Shelf), Fault>
+/// The scratch machine of a search by a plan, and a recent with no machine but its own.
+fn machines_of(plan: &Plan) -> Result<(Machine, RecentMachines), Fault>
     ensures twin { IfOk result (λ r. r.0 ≡ plan.now.start) }
-    ensures spots { IfOk result (λ r. r.1.spots.items ≡ []) }
+    ensures machines { IfOk result (λ r. r.1.machines.items ≡ []) }
     ensures spare { IfOk result (λ r. r.1.spare ≡ plan.now.start) }
 {
     let twin = plan.start.copy(plan.alloc)?;
-    match Shelf::sized(plan.alloc, &plan.start, MOST_SPOTS, MAX_CHOICES) {
-        Ok(shelf) => Ok((twin, shelf)),
+    match RecentMachines::sized(plan.alloc, &plan.start, MOST_MACHINES, MAX_CHOICES) {
+        Ok(recent) => Ok((twin, recent)),
         Err(fault) => {
             twin.discard();
             Err(fault)
@@ -60,9 +60,9 @@ impl Search {
         let digest = digest_of(Cursors::at_start(), &plan.start);
         let reached = Reached::new(plan.alloc, digest)?;
         match machines_of(plan) {
-            Ok((twin, shelf)) => Ok(Search {
+            Ok((twin, recent)) => Ok(Search {
                 reached,
-                shelf,
+                recent,
                 twin,
             }),
             Err(fault) => {

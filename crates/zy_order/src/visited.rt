@@ -2,12 +2,12 @@
 ghost use Rattle.std.specs.Prelude.{◌≡◌, ◌<◌, ◌≤◌, ◌-◌, ◌^◌, ◌++◌, ◌∷◌, [], IfOk, IfSome, OnOk, OnErr, length};
 ghost use Rattle.std.specs.Prelude.{slice_index_or};
 
-use crate::branch::Branch;
-use crate::tree::ChoiceTree;
 use std::alloc::{AllocError, Global};
 use std::collections::HashMap;
 use std::marker::Model;
 use zy_isa::Choice;
+use zy_search::branch::Branch;
+use zy_search::tree::ChoiceTree;
 
 /// A path to each state that was reached, and where to look for a state that has a digest.
 #[derive(Drop)]

@@ -6,7 +6,6 @@ pub mod StillSteps
 pub mod TurnLemmas
 pub mod AlikeLemmas
 pub mod CommitLemmas
-pub mod ShelfLemmas
 pub mod EdgeLemmas
 pub mod MeetLemmas
 pub mod PossibleLemmas

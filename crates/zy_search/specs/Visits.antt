@@ -20,8 +20,6 @@ use Rattle.zy_search.specs.declared.plan.Plan.{Plan}
 use Rattle.zy_search.specs.declared.branch.Branch.{Branch}
 use Rattle.zy_search.specs.declared.reached.Reached.{Reached}
 use Rattle.zy_search.specs.declared.scratch.Scratch.{Scratch}
-use Rattle.zy_search.specs.declared.shelf.Spot.{Spot}
-use Rattle.zy_search.specs.declared.shelf.Shelf.{Shelf}
 use Rattle.zy_search.specs.declared.answer.Met.{Met}
 use Rattle.zy_search.specs.declared.answer.Met.TheVariants as met
 use Rattle.zy_search.specs.declared.answer.Expanded.{Expanded}
@@ -108,15 +106,6 @@ pub record IsTwin (m twin : History) : Type 0 where
   pub scenario : twin.scenario ≡ m.scenario
   pub state : twin.state ≡ m.state
   pub entries : length m.entries ≤ length twin.entries
-
--- a machine of the scenario, where the path leads that it names
-pub record IsSpot (h : History) (paths : List (List Choice)) (spot : Spot) : Type 0 where
-  pub scenario : spot.machine.scenario ≡ h.scenario
-  pub here : IfSome spot.at (λ at. (at < length paths) × IsHere h paths at spot.machine)
-
-pub record IsShelf (h : History) (paths : List (List Choice)) (shelf : Shelf) : Type 0 where
-  pub spots : All (IsSpot h paths) shelf.spots.items
-  pub spare : shelf.spare.scenario ≡ h.scenario
 
 -- ---- what is known of the states
 

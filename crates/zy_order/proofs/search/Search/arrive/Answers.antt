@@ -1,7 +1,7 @@
 -- The machine was kept, or it goes along the path.
 use Rattle.std.proofs.Common.{◌≡◌, ◌+◌, length, arith}
 use Rattle.zy_search.specs.Visits.{path_at, length_at, IsHere}
-use Rattle.zy_search.proofs.ShelfLemmas.{in_any_case}
+use Rattle.zy_order.proofs.RecentLemmas.{in_any_case}
 use Rattle.zy_order.specs.Reaches.{cursors_at}
 use Rattle.zy_order.proofs.LoopLemmas.{on_ok_both}
 use Rattle.zy_order.proofs.PushLemmas.{adds_taken, search_taken}
@@ -13,7 +13,7 @@ returns-then-len-lt-MAX_CHOICES-clause-adds c =
     let d = c.requires in
     let s = c.args.self.now in
     adds_taken c.args.plan.now s c.take.new.self d.search
-    (c.take.ensures.shelf c.args.plan.now.start s.reached.visited d.search.shelf d.machine)
+    (c.take.ensures.recent c.args.plan.now.start s.reached.visited d.search.recent d.machine)
 
 pub returns-then-len-lt-MAX_CHOICES-clause-there : goal.returns-then-len-lt-MAX_CHOICES-clause-there
 returns-then-len-lt-MAX_CHOICES-clause-there c =
@@ -21,22 +21,22 @@ returns-then-len-lt-MAX_CHOICES-clause-there c =
     let h = c.args.plan.now.start in
     let s = c.args.self.now in
     record {
-      search = search_taken c.args.plan.now s c.take.new.self d.search (c.take.ensures.shelf h s.reached.visited d.search.shelf d.machine);
+      search = search_taken c.args.plan.now s c.take.new.self d.search (c.take.ensures.recent h s.reached.visited d.search.recent d.machine);
       there = d.there;
-      machine = c.take.ensures.here h s.reached.visited d.search.shelf c.if-take.true;
+      machine = c.take.ensures.here h s.reached.visited d.search.recent c.if-take.true;
       room = omega arith;
     }
 
 pub go_to-requires-clause-same : goal.go_to-requires-clause-same
 go_to-requires-clause-same c =
-    c.take.ensures.scenario c.args.plan.now.start c.args.self.now.reached.visited c.requires.search.shelf c.requires.machine
+    c.take.ensures.scenario c.args.plan.now.start c.args.self.now.reached.visited c.requires.search.recent c.requires.machine
 
 pub returns-clause-adds : goal.returns-clause-adds
 returns-clause-adds c =
     let d = c.requires in
     let s = c.args.self.now in
     in_any_case _ c.go_to.result (adds_taken c.args.plan.now s c.take.new.self d.search
-    (c.take.ensures.shelf c.args.plan.now.start s.reached.visited d.search.shelf d.machine))
+    (c.take.ensures.recent c.args.plan.now.start s.reached.visited d.search.recent d.machine))
 
 pub returns-clause-there : goal.returns-clause-there
 returns-clause-there c =
@@ -51,7 +51,7 @@ returns-clause-there c =
     on_ok_both (IsHere p.start ps at m) (length m.entries ≡ length p.start.entries + length_at ps at) _ c.go_to.result
     (λ here e.
     record {
-      search = search_taken p s c.take.new.self d.search (c.take.ensures.shelf p.start ps d.search.shelf d.machine);
+      search = search_taken p s c.take.new.self d.search (c.take.ensures.recent p.start ps d.search.recent d.machine);
       there = d.there;
       machine = here;
       room = omega (arith, e, fewer, d.search.under_way.plan.room);

@@ -2,7 +2,7 @@
 use Rattle.std.proofs.Common.{◌∙◌, List, sym, subst, arith}
 use Rattle.std.proofs.Math.Bool.{false≢true}
 use Rattle.zy_isa.specs.declared.choice.Choice.{Choice}
-use Rattle.zy_search.specs.Visits.{IsShelf}
+use Rattle.zy_order.specs.Recent.{AreRecentMachines}
 use Rattle.zy_order.specs.Ways.{AreMatched}
 use Rattle.zy_order.proofs.LoopLemmas.{followed_next}
 use Rattle.zy_order.proofs.search.Search.follow.Goals as goal
@@ -48,7 +48,7 @@ expand-requires g c =
     record {
       search = record {
         under_way = record { plan = u.plan; reached = c.in-Some.ensures.reached p u.reached };
-        shelf = subst (λ (ps : List (List Choice)). IsShelf p.start ps c.loop-turn.self.shelf) (sym c.next_of.ensures.paths) f.search.shelf;
+        recent = subst (λ (ps : List (List Choice)). AreRecentMachines p.start ps c.loop-turn.self.recent) (sym c.next_of.ensures.paths) f.search.recent;
         twin = f.search.twin;
       };
       there = (c.in-Some.ensures.taken p u.reached f.followed).0;

@@ -10,7 +10,7 @@ returns-clause-adds c =
     let e = c.in_ok-push.ensures in
     let put = c.in_ok-put.ensures in
     adds_new s c.args.here c.args.by c.args.cursors on c.push.new.self e.paths e.cursors e.todo c.requires.room _ c.put.new.self c.put.new.machine
-    c.len-place.ensures.value (put.scenario p.start s.reached.visited on.at.search.shelf on.next.scenario) (put.shelf p.start c.push.new.self.visited)
+    c.len-place.ensures.value (put.scenario p.start s.reached.visited on.at.search.recent on.next.scenario) (put.recent p.start c.push.new.self.visited)
 
 pub returns-clause-known : goal.returns-clause-known
 returns-clause-known c =

@@ -6,5 +6,5 @@ pub returns-in-Ok : goal.returns-in-Ok
 returns-in-Ok c =
     let r = c.in_ok-reached.ensures in
     let made = c.in-Ok.ensures in
-    begins c.args.plan.now (record { reached = c.in_ok-reached.reached; shelf = c.in-Ok.shelf; twin = c.in-Ok.twin }) c.requires r.paths r.cursors
-    r.todo made.spots made.spare made.twin
+    begins c.args.plan.now (record { reached = c.in_ok-reached.reached; recent = c.in-Ok.recent; twin = c.in-Ok.twin }) c.requires r.paths r.cursors
+    r.todo made.machines made.spare made.twin

@@ -3,12 +3,12 @@ use Rattle.std.proofs.Common.{sym, subst}
 use Rattle.zy_table.specs.State.{State}
 use Rattle.zy_order.specs.declared.reached.Reached.{Reached}
 use Rattle.zy_order.specs.Reaches.{state_by, IsKnown}
-use Rattle.zy_order.proofs.PushLemmas.{adds_on, adds_shelf, goes_on_shelf}
+use Rattle.zy_order.proofs.PushLemmas.{adds_on, adds_recent, goes_on_recent}
 use Rattle.zy_order.proofs.search.Search.note.Goals as goal
 
 pub returns-in_default-clause-adds : goal.returns-in_default-clause-adds
 returns-in_default-clause-adds c =
-    adds_shelf c.args.here.plan.now c.args.self.now c.free_under.new.self c.in_ok-digest.ensures.keeps c.requires.at.search
+    adds_recent c.args.here.plan.now c.args.self.now c.free_under.new.self c.in_ok-digest.ensures.keeps c.requires.at.search
 
 pub returns-in_default-clause-known : goal.returns-in_default-clause-known
 returns-in_default-clause-known c = λ _.
@@ -20,18 +20,18 @@ returns-in_default-clause-known c = λ _.
 
 pub returns-then-here-len-clause-adds : goal.returns-then-here-len-clause-adds
 returns-then-here-len-clause-adds c =
-    adds_shelf c.args.here.plan.now c.args.self.now c.free_under.new.self c.in_ok-digest.ensures.keeps c.requires.at.search
+    adds_recent c.args.here.plan.now c.args.self.now c.free_under.new.self c.in_ok-digest.ensures.keeps c.requires.at.search
 
 pub keep-requires-clause-leads : goal.keep-requires-clause-leads
 keep-requires-clause-leads c =
-    goes_on_shelf c.args.self.now c.free_under.new.self c.args.here c.args.by c.args.cursors c.in_ok-digest.ensures.keeps c.requires
+    goes_on_recent c.args.self.now c.free_under.new.self c.args.here c.args.by c.args.cursors c.in_ok-digest.ensures.keeps c.requires
 
 pub returns-clause-adds : goal.returns-clause-adds
 returns-clause-adds c =
     let p = c.args.here.plan.now in
     let s = c.args.self.now in
     let t = c.free_under.new.self in
-    adds_on p s t c.keep.new.self (adds_shelf p s t c.in_ok-digest.ensures.keeps c.requires.at.search) c.in_ok-keep.ensures.adds
+    adds_on p s t c.keep.new.self (adds_recent p s t c.in_ok-digest.ensures.keeps c.requires.at.search) c.in_ok-keep.ensures.adds
 
 pub returns-clause-known : goal.returns-clause-known
 returns-clause-known c = λ _.
