@@ -103,11 +103,11 @@ impl LineBuffer {
 }
 
 /// The most bytes that a piece has.
-const LONGEST: usize = 160;
+pub(crate) const LONGEST: usize = 160;
 
 /// The bytes, for which none are left. They come by value, so that where they lie need not be read again after each.
 #[inline(always)]
-fn taken(bytes: &mut Vec<u8>) -> Vec<u8>
+pub(crate) fn taken(bytes: &mut Vec<u8>) -> Vec<u8>
     ensures { result ≡ bytes.old }
 {
     let none = Vec::new(*bytes.allocator());
@@ -116,7 +116,7 @@ fn taken(bytes: &mut Vec<u8>) -> Vec<u8>
 
 /// Puts bytes where `taken` left none. What it left there has no memory, so it is not dropped, which would be a test and a call.
 #[inline(always)]
-fn put_back(place: &mut Vec<u8>, bytes: Vec<u8>)
+pub(crate) fn put_back(place: &mut Vec<u8>, bytes: Vec<u8>)
     ensures { place.new ≡ bytes }
 {
     mem::forget(mem::replace(place, bytes));

@@ -4,9 +4,11 @@ ghost use Rattle.std.specs.Prelude.{is_err, length, take};
 ghost use Rattle.std.specs.Io.KnownBytes.{Appends, Keeps, append_known};
 ghost use Rattle.zy_io.specs.Streams.{WritesAll};
 
+use crate::buffer::LineBuffer;
 use crate::pending::Pending;
+use crate::piece::Piece;
 use crate::stream::Sink;
-use crate::writing::WriteFault;
+use crate::writing::{TextFault, WriteFault};
 use std::io;
 
 /// Keeps bytes back for a sink, which is called once for many lines. The bytes that are kept back when it is dropped
@@ -35,11 +37,13 @@ impl<K> Buffered<K> {
 
 impl<K: Sink> Buffered<K> {
     /// Passes on what is kept back, up to the first call of the sink that fails or takes none.
+    #[cold]
+    #[inline(never)]
     pub fn pass(&mut self) -> Result<(), WriteFault>
         requires { K.failures self.old.sink < u64.MAX }
-        ensures empty { OnOk result (self.new.pending ≡ []) }
-        ensures bytes { Keeps (append_known (K.written self.old.sink) self.old.pending)
-            (append_known (K.written self.new.sink) self.new.pending) }
+        ensures empty { OnOk result (self.new.pending.bytes.items ≡ []) }
+        ensures bytes { Keeps (append_known (K.written self.old.sink) self.old.pending.bytes.items)
+            (append_known (K.written self.new.sink) self.new.pending.bytes.items) }
         ensures failed { K.failures self.new.sink ≡ K.failures self.old.sink + (if is_err result then 1 else 0) }
     {
         let (given, outcome) = give(&mut self.sink, self.pending.as_slice());
@@ -52,8 +56,8 @@ impl<K: Sink> Buffered<K> {
     #[inline(never)]
     fn put_many(&mut self, bytes: &[u8]) -> Result<(), WriteFault>
         requires { K.failures self.old.sink < u64.MAX }
-        ensures { WritesAll (append_known (K.written self.old.sink) self.old.pending)
-            (append_known (K.written self.new.sink) self.new.pending)
+        ensures { WritesAll (append_known (K.written self.old.sink) self.old.pending.bytes.items)
+            (append_known (K.written self.new.sink) self.new.pending.bytes.items)
             (K.failures self.old.sink) (K.failures self.new.sink) result bytes.now }
     {
         self.pass()?;
@@ -66,7 +70,7 @@ impl<K: Sink> Buffered<K> {
 
 /// What is kept back counts as written.
 impl<K: Sink> Sink for Buffered<K> {
-    ghost written = { λ s. append_known (K.written s.sink) s.pending };
+    ghost written = { λ s. append_known (K.written s.sink) s.pending.bytes.items };
 
     ghost failures = { λ s. K.failures s.sink };
 
@@ -86,6 +90,18 @@ impl<K: Sink> Sink for Buffered<K> {
             return Ok(());
         }
         self.put_many(bytes)
+    }
+
+    /// The piece is put together where it is kept back.
+    #[inline(always)]
+    fn put_piece<P: Piece>(&mut self, piece: P, _buffer: &mut LineBuffer) -> Result<(), TextFault> {
+        if !self.pending.has_room() {
+            if let Err(fault) = self.pass() {
+                return Err(TextFault::from(fault));
+            }
+        }
+        self.pending.keep_piece(piece);
+        Ok(())
     }
 }
 

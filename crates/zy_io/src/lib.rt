@@ -24,6 +24,8 @@ pub use crate::patient::Patient;
 pub use crate::pending::Pending;
 pub use crate::piece::Piece;
 pub use crate::reading::{MAX_INPUT, ReadFault};
-pub use crate::section::{AllLines, AllParts, Both, Lines, One, Parts, Section};
+pub use crate::section::{
+    AllLines, AllParts, AllPieces, Both, Lines, One, Parts, PieceLines, Section,
+};
 pub use crate::stream::{CountingReader, CountingWriter, Sink, Source};
 pub use crate::writing::{TextFault, WriteFault};

@@ -1,91 +1,69 @@
-//! Bytes that are kept back, in memory of a fixed size.
-ghost use Rattle.std.specs.Prelude.{◌≡◌, ◌≤◌, ◌+◌, ◌++◌, [], IfOk, if◌then◌else◌, length, take, drop};
+//! Bytes that are kept back, in memory that never grows.
+ghost use Rattle.std.specs.Prelude.{◌≡◌, ◌≤◌, ◌<◌, ◌+◌, ◌++◌, [], IfOk, if◌then◌else◌, length, drop, true, false};
+ghost use Rattle.std.specs.Prelude.{vec_capacity, vec_len};
 
+use crate::buffer::{LONGEST, put_back, taken};
+use crate::piece::Piece;
 use std::alloc::{AllocError, Global};
-use std::marker::Model;
 
-/// Bytes that are kept back, in memory of a fixed size.
+/// Bytes that are kept back, in memory that never grows and has room for any one piece.
 #[derive(Drop)]
 pub struct Pending {
-    memory: Vec<u8>,
-    count: usize,
-}
-
-impl Model for Pending {
-    ghost use Rattle.std.specs.Prelude.{List, ℕ, take};
-
-    ghost Value = { List ℕ };
-
-    ghost view = { λ h. take h.count h.memory.items };
+    bytes: Vec<u8>,
+    ghost room: { 160 ≤ vec_capacity bytes },
 }
 
 impl Pending {
-    /// No bytes yet, and never more than this many.
+    /// No bytes yet, and never more than this many, or those of one piece.
     pub fn new(alloc: Global, most: usize) -> Result<Pending, AllocError>
-        ensures { IfOk result (λ h. h ≡ []) }
+        ensures { IfOk result (λ h. h.bytes.items ≡ []) }
     {
-        let memory = Vec::from_elem(alloc, 0, most)?;
-        Ok(Pending { memory, count: 0 })
+        let bytes = Vec::with_capacity(alloc, most.max(LONGEST))?;
+        Ok(Pending { bytes })
     }
 
     /// The bytes.
     pub(crate) fn as_slice(&self) -> &[u8]
-        ensures value { result.now ≡ self.now }
+        ensures value { result.now ≡ self.now.bytes.items }
     {
-        &self.memory[..self.count.min(self.memory.len())]
+        self.bytes.as_slice()
     }
 
     /// Keeps back bytes behind the others, if there is room for all of them, and says whether there was.
     #[inline(always)]
     pub(crate) fn keep(&mut self, bytes: &[u8]) -> bool
-        ensures { self.new ≡ (if result then self.old ++ bytes.now else self.old) }
+        ensures { self.new.bytes.items ≡ (if result then self.old.bytes.items ++ bytes.now else self.old.bytes.items) }
     {
-        let Some(end) = self.count.checked_add(bytes.len()) else {
-            return false;
-        };
-        if end > self.memory.len() {
-            return false;
-        }
-        copy(&mut self.memory[self.count..end], bytes);
-        self.count = end;
-        true
+        bytes.len() <= self.bytes.capacity() - self.bytes.len()
+            && self.bytes.extend_from_slice(bytes).is_ok()
+    }
+
+    /// Whether there is room for any one piece.
+    #[inline(always)]
+    pub(crate) fn has_room(&self) -> bool
+        ensures room { result ≡ true → vec_len self.now.bytes + 160 ≤ vec_capacity self.now.bytes }
+        ensures full { result ≡ false → vec_capacity self.now.bytes < vec_len self.now.bytes + 160 }
+    {
+        self.bytes.capacity() - self.bytes.len() >= LONGEST
+    }
+
+    /// Keeps back a piece behind the others.
+    #[inline(always)]
+    pub(crate) fn keep_piece<P: Piece>(&mut self, piece: P)
+        requires { vec_len self.old.bytes + P.most ≤ vec_capacity self.old.bytes }
+        ensures { self.new.bytes.items ≡ self.old.bytes.items ++ P.text piece }
+    {
+        let longer = piece.put_behind(taken(&mut self.bytes));
+        put_back(&mut self.bytes, longer);
     }
 
     /// Drops the first bytes.
     pub(crate) fn drop_front(&mut self, count: usize)
-        requires { count ≤ length self.old }
-        ensures { self.new ≡ drop count self.old }
+        requires { count ≤ length self.old.bytes.items }
+        ensures { self.new.bytes.items ≡ drop count self.old.bytes.items }
     {
-        let end = self.count.min(self.memory.len());
-        self.memory.as_mut_slice().copy_within(count..end, 0);
-        self.count = end - count;
-    }
-}
-
-/// Copies bytes, and calls no function for 8 to 32 of them, which most lines have.
-#[inline(always)]
-fn copy(to: &mut [u8], bytes: &[u8])
-    requires { length to.old ≡ length bytes.now }
-    ensures { to.new ≡ bytes.now }
-{
-    match bytes.len() {
-        8..=16 => copy_ends::<8>(to, bytes),
-        17..=32 => copy_ends::<16>(to, bytes),
-        _ => to.copy_from_slice(bytes),
-    }
-}
-
-/// Copies the first and the last piece of bytes, which are all of them. The pieces may overlap.
-#[inline(always)]
-fn copy_ends<const N: usize>(to: &mut [u8], bytes: &[u8])
-    requires same { length to.old ≡ length bytes.now }
-    requires within { (N ≤ length bytes.now) × (length bytes.now ≤ N + N) }
-    ensures { to.new ≡ bytes.now }
-{
-    if let (Some(place), Some(first)) = (to.first_chunk_mut::<N>(), bytes.first_chunk::<N>()) {
-        *place = *first;
-    }
-    if let (Some(place), Some(last)) = (to.last_chunk_mut::<N>(), bytes.last_chunk::<N>()) {
-        *place = *last;
+        let left = self.bytes.len() - count;
+        self.bytes.rotate_left(count);
+        self.bytes.truncate(left);
     }
 }

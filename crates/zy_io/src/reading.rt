@@ -12,6 +12,10 @@ pub const MAX_INPUT: usize = 4_194_304;
 /// How many bytes one call asks for.
 const PIECE: usize = 4096;
 
+/// How many bytes there is room for at first. So much comes in whole pages of the system, which more room is put behind
+/// without a copy of the bytes.
+const FIRST_ROOM: usize = 131_072;
+
 /// Why an input was not read to its end.
 #[derive(Clone, Copy, Debug, PartialEq, Eq, Error)]
 pub enum ReadFault {
@@ -50,7 +54,7 @@ pub fn read_all<S: Source>(alloc: Global, source: &mut S) -> Result<Vec<u8>, Rea
     // Whatever is known of the bytes, the calls give at most one byte more than the longest input has.
     ensures bound { S.given source.new ≤ S.given source.old + most_read }
 {
-    let mut bytes = Vec::new(alloc);
+    let mut bytes = Vec::with_capacity(alloc, FIRST_ROOM)?;
     let mut piece = [0u8; PIECE];
     loop {
         let room = MAX_INPUT - bytes.len();

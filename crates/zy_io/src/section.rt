@@ -4,7 +4,8 @@ ghost use Rattle.std.specs.List.{flat_map};
 ghost use Rattle.zy_io.specs.Writing.{line_of, Appended, Wrote};
 
 use crate::buffer::LineBuffer;
-use crate::line::Line;
+use crate::line::{Joined, Line};
+use crate::piece::Piece;
 use crate::stream::Sink;
 use crate::writing::TextFault;
 use std::alloc::AllocError;
@@ -23,6 +24,25 @@ pub trait Lines {
     fn append(&self, place: usize, line: &mut LineBuffer) -> Result<(), AllocError>
         requires { place < length (texts self.now) }
         ensures { Appended result line.old line.new (slice_index_or (texts self.now) place []) };
+}
+
+/// A list of lines, each of which is a piece: it is put together where the sink keeps it back, if it does.
+pub trait PieceLines {
+    /// What a line is, without its end.
+    type Text: Piece;
+
+    // The texts of the lines, without their ends.
+    ghost texts: { Self → List (List ℕ) };
+
+    /// How many lines there are.
+    fn len(&self) -> usize
+        ensures { result ≡ length (texts self.now) };
+
+    /// A line, by its place in the list.
+    fn line(&self, place: usize) -> Self::Text
+        requires { place < length (texts self.now) }
+        ensures text { Self.Text.text result ≡ slice_index_or (texts self.now) place [] }
+        ensures short { Self.Text.most < 160 };
 }
 
 /// A part of a text that writes its own lines.
@@ -97,6 +117,21 @@ impl<L: Lines> Section for AllLines<L> {
             line.clear();
             self.0.append(place, line)?;
             finish_line(sink, line)?;
+        }
+        Ok(())
+    }
+}
+
+/// Each line of a list whose lines are pieces.
+#[derive(Clone, Copy)]
+pub struct AllPieces<L>(pub L);
+
+impl<L: PieceLines> Section for AllPieces<L> {
+    ghost texts = { λ s. L.texts s.0 };
+
+    fn write<K: Sink>(&self, sink: &mut K, line: &mut LineBuffer) -> Result<(), TextFault> {
+        for place in 0..self.0.len() {
+            sink.put_piece(Joined(self.0.line(place), b"\n"), line)?;
         }
         Ok(())
     }

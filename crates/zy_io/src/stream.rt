@@ -1,11 +1,14 @@
 //! Where bytes come from and go to, one call at a time, with a count of the calls that failed and of the bytes that
 //! were given.
-ghost use Rattle.std.specs.Prelude.{◌≡◌, ◌<◌, ◌+◌, ℕ, List, Option, is_err, if◌then◌else◌};
+ghost use Rattle.std.specs.Prelude.{◌≡◌, ◌<◌, ◌≤◌, ◌+◌, ℕ, List, Option, is_err, if◌then◌else◌};
 ghost use Rattle.std.specs.Io.{ReadsAtMost, WritesAtMost};
 ghost use Rattle.std.specs.Io.KnownBytes.{ReadConsumes, WriteAppends, Keeps};
 ghost use Rattle.zy_io.specs.Streams.{WritesAll, counted, pull_faults, pulled_bytes, put_faults};
+ghost use Rattle.zy_io.specs.Writing.{Wrote};
 
-use crate::writing::WriteFault;
+use crate::buffer::LineBuffer;
+use crate::piece::Piece;
+use crate::writing::{TextFault, WriteFault};
 use std::io;
 use std::io::{Read, Write};
 use std::marker::Model;
@@ -62,6 +65,19 @@ pub trait Sink {
             let (_, left) = rest.split_at(count);
             rest = left;
         }
+        Ok(())
+    }
+
+    /// Takes a piece as `put_all` takes bytes. A sink that has no place for it to be put together in has it from the buffer,
+    /// whose old text is lost.
+    fn put_piece<P: Piece>(&mut self, piece: P, buffer: &mut LineBuffer) -> Result<(), TextFault>
+        requires failures { failures self.old < u64.MAX }
+        requires short { P.most ≤ 160 }
+        ensures { Wrote (written self.old) (written self.new) (failures self.old) (failures self.new) result (P.text piece) }
+    {
+        buffer.clear();
+        buffer.push_piece(piece)?;
+        self.put_all(buffer.as_bytes())?;
         Ok(())
     }
 }

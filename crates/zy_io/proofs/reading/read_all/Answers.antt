@@ -8,7 +8,7 @@ use Rattle.zy_io.proofs.reading.read_all.Goals as goal
 pub returns-in_err-extend_from_slice-clause-reads :
     goal.returns-in_err-extend_from_slice-clause-reads
 returns-in_err-extend_from_slice-clause-reads g c =
-    let p = err_from_is_err_and c.from_residual.result c.from_residual.ensures.1 in
+    let p = err_from_is_err_and c.from_residual-in_err-extend_from_slice.result c.from_residual-in_err-extend_from_slice.ensures.1 in
     rw (p.1, p.2) (
       (
         _,
