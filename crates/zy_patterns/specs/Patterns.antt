@@ -40,7 +40,7 @@ allows_reason (Some r) w = matches_reason r w
 abbrev pub matches : OutcomePattern → Outcome → Bool
 matches pattern.Started outcome.Started = true
 matches pattern.BadMode outcome.BadMode = true
-matches (pattern.Began node) (outcome.Began n) = allows_node node n
+matches (pattern.Began asked) (outcome.Began n) = allows_node asked n
 matches pattern.Idle outcome.Idle = true
 matches pattern.Elsewhere outcome.Elsewhere = true
 matches pattern.NotYet outcome.NotYet = true
@@ -67,3 +67,45 @@ matches (pattern.Active txn) (outcome.Active t) = allows txn t
 matches (pattern.Pushed page) (outcome.Pushed p) = allows page p
 matches pattern.NoPush outcome.NoPush = true
 matches x o = false
+
+-- the pattern of a reason with its page
+abbrev pub exactly_reason : Why → ReasonPattern
+exactly_reason why.Own = reason.Own
+exactly_reason why.Killed = reason.Killed
+exactly_reason why.BadKey = reason.BadKey
+exactly_reason why.Missing = reason.Missing
+exactly_reason why.Duplicate = reason.Duplicate
+exactly_reason (why.Frozen p) = reason.Frozen (Some p)
+exactly_reason why.NoPage = reason.NoPage
+exactly_reason (why.Gone p) = reason.Gone (Some p)
+
+-- the pattern of an outcome with its node, its reason and its numbers: it leaves nothing out
+abbrev pub exactly : Outcome → OutcomePattern
+exactly outcome.Started = pattern.Started
+exactly outcome.BadMode = pattern.BadMode
+exactly (outcome.Began n) = pattern.Began (Some n)
+exactly outcome.Idle = pattern.Idle
+exactly outcome.Elsewhere = pattern.Elsewhere
+exactly outcome.NotYet = pattern.NotYet
+exactly outcome.Did = pattern.Did
+exactly (outcome.Split p q k) = pattern.Split (Some p) (Some q) (Some k)
+exactly (outcome.Aborted w) = pattern.Aborted (Some (exactly_reason w))
+exactly (outcome.Committed i) = pattern.Committed (Some i)
+exactly (outcome.Waits p) = pattern.Waits (Some p)
+exactly (outcome.Pulls p) = pattern.Pulls (Some p)
+exactly (outcome.Awaits p) = pattern.Awaits (Some p)
+exactly outcome.NoMessage = pattern.NoMessage
+exactly outcome.GotWire = pattern.GotWire
+exactly outcome.GotReady = pattern.GotReady
+exactly outcome.GotDual = pattern.GotDual
+exactly (outcome.Stale p) = pattern.Stale (Some p)
+exactly (outcome.Held p) = pattern.Held (Some p)
+exactly (outcome.GotPull p) = pattern.GotPull (Some p)
+exactly (outcome.GotPage p) = pattern.GotPage (Some p)
+exactly outcome.GotFinish = pattern.GotFinish
+exactly outcome.GotDone = pattern.GotDone
+exactly outcome.Stray = pattern.Stray
+exactly outcome.Finishing = pattern.Finishing
+exactly (outcome.Active t) = pattern.Active (Some t)
+exactly (outcome.Pushed p) = pattern.Pushed (Some p)
+exactly outcome.NoPush = pattern.NoPush

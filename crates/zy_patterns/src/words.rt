@@ -1,5 +1,6 @@
 //! The words of outcomes and what they stand for, a line for each.
 ghost use Rattle.std.specs.Prelude.{◌≡◌};
+ghost use Rattle.std.specs.Str.{bytes_eq};
 ghost use Rattle.zy_patterns.specs.Vocabulary as spec;
 
 use crate::paged::PagedOutcome;
@@ -7,8 +8,14 @@ use crate::patterns::{OutcomePattern, ReasonPattern};
 use zy_isa::Node;
 use zy_model::Kind;
 
-/// For the macro, in whichever crate it is used.
-pub use zy_text::names::is;
+/// Whether a word is this text. It is also for the macro, in whichever crate that is used. (`zy_text` has one like it; a search
+/// then waits for no crate of texts.)
+#[inline(always)]
+pub fn is(word: &[u8], text: &[u8]) -> bool
+    ensures { result ≡ bytes_eq word.now text.now }
+{
+    word == text
+}
 
 /// What a word stands for in a table, if it is there.
 #[macro_export]

@@ -1,0 +1,9 @@
+//! What holds of patterns: each function is a law, and its contract is all of it.
+ghost use Rattle.std.specs.Prelude.{◌≡◌, ◌↔◌, true};
+ghost use Rattle.zy_table.specs.declared.outcome.Outcome.{Outcome as AnOutcome};
+ghost use Rattle.zy_patterns.specs.Patterns.{exactly, matches};
+
+/// The pattern that leaves nothing out of an outcome matches this one, and no other.
+pub fn exact_is_one()
+    ensures { (said came : AnOutcome) → matches (exactly said) came ≡ true ↔ came ≡ said }
+{}
