@@ -207,10 +207,11 @@ found_cap (l ∷ ls) v t h =
 abbrev pub shows : Seen → Scenario
 shows t = record { version = t.version; cap = t.cap; pages = t.pages; rule = t.rule; rows = t.rows; programs = t.programs; choices = t.choices }
 
--- lines that spell the statements of a draft of the scenario that the state shows, which has no fault
+-- lines that spell the statements of a draft of the scenario that the state shows, which has no fault; the draft's names are the state's
 pub record FoundText (ls : List (List (List ℕ))) (t : Seen) : Type 0 where
   pub draft : Draft
   pub drafts : IsDraftOf draft (shows t)
+  pub names : t.names ≡ names_of 0 draft.programs
   pub spelled : SpellEach (statements (shows t) draft) ls
   pub tested : scenario_fault (shows t) ≡ None
 
@@ -226,6 +227,7 @@ whole a ls v t z f =
     let all : FoundText (a ∷ f.line ∷ g.line ∷ i.line ∷ i.more) u = record {
       draft = record { programs = r.programs; choices = r.choices };
       drafts = record { programs = refl; choices = refl; headed = r.headed; names_new = r.new; labelled = r.labelled };
+      names = refl;
       spelled = (z, ((f.number.word, f.number.spelled, f.number.number), ((g.number.word, g.number.spelled, g.number.number), (i.spelled, j.spelled))));
       tested = no_fault (shows u) f.number.least f.number.most g.number.least g.number.most j.placed.few j.placed.few_pages j.placed.in_order r.few
           r.few_choices r.named r.known;

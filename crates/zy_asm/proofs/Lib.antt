@@ -10,6 +10,8 @@ pub mod FitLemmas
 pub mod FoundSteps
 pub mod GivesLemmas
 pub mod OnlyLemmas
+mod HeadLemmas
+mod TableLemmas
 pub mod CanonLemmas
 pub mod InputLemmas
 pub mod UsualLemmas

@@ -33,10 +33,9 @@ use Rattle.zy_asm.specs.declared.faults.AsmKind.TheVariants as kinds
 use Rattle.zy_asm.specs.declared.faults.AsmFault.{AsmFault}
 use Rattle.zy_asm.specs.declared.state.Stage.{Stage}
 use Rattle.zy_asm.specs.declared.state.Stage.TheVariants as stage
-use Rattle.zy_asm.specs.declared.state.Reader.{Reader}
 use Rattle.zy_isa.specs.Results.{◌>>=◌}
 use Rattle.zy_asm.specs.Pending.{Pending, resolved, all_resolved, program_of}
-use Rattle.zy_asm.specs.Reading.Progress.{Seen, progress_of}
+use Rattle.zy_asm.specs.Reading.Progress.{Seen}
 use Rattle.zy_asm.specs.Reading.HeadLines.{rule_of}
 use Rattle.zy_asm.specs.Reading.ProgramLines.{own_number, open_line}
 use Rattle.zy_asm.specs.Reading.ChoiceLines.{choice_line}
@@ -218,7 +217,7 @@ at_node : (n : Node) (rest front : List (List ℕ)) → front ≡ node_text n �
 at_node n rest front e = (actor_at n, rest, e ∙ ap (λ w. w ∷ rest) (sym (node_word n)))
 
 -- the words of a choice begin with an actor's word
-choice_shape : (N : List Mark) (x : Choice) (front : List (List ℕ)) → SpellsChoice N x front → (a : Actor) × (rest : List (List ℕ))
+pub choice_shape : (N : List Mark) (x : Choice) (front : List (List ℕ)) → SpellsChoice N x front → (a : Actor) × (rest : List (List ℕ))
     × (front ≡ actor_word a ∷ rest)
 choice_shape N choice.Start front g = (actor.C, codes "start" ∷ [], g)
 choice_shape N (choice.Begin t) front g = (actor.C, codes "begin" ∷ g.0 ∷ [], g.1)
@@ -456,8 +455,8 @@ strip_back (l ∷ ls) s t n h = let p = back_at (words_of l) (map words_of ls) s
 -- ---- the laws
 
 -- the lines with words of a text that is read spell the scenario that the state shows
-pub read_text : (text : List ℕ) (r : Reader) → reading text ≡ Ok (progress_of r) → FoundText (lines_with_words text) (progress_of r)
-read_text text r h = found_text (lines_with_words text) (progress_of r) (strip_ok (lines_of text) nothing_seen (progress_of r) 1 h)
+pub read_text : (text : List ℕ) (t : Seen) → reading text ≡ Ok t → FoundText (lines_with_words text) t
+read_text text t h = found_text (lines_with_words text) t (strip_ok (lines_of text) nothing_seen t 1 h)
 
 -- a text that spells a scenario means it
 pub Means-from_read : (text : List ℕ) (t : Seen) → FoundText (lines_with_words text) t → IsScenario (shows t) → Means text (shows t)

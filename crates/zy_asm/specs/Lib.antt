@@ -7,3 +7,4 @@ pub mod Stages
 pub mod Reading
 pub mod Assembling
 pub mod Input
+pub mod Names

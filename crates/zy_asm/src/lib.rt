@@ -6,6 +6,7 @@ mod choices;
 pub mod faults;
 mod instructions;
 mod name_table;
+pub mod names;
 mod numbers;
 mod pending;
 mod reading;

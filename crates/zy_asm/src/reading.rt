@@ -25,7 +25,6 @@ use zy_isa::{Rule, Version};
 use zy_text::Words;
 use zy_text::line::take_line;
 use zy_text::names::label_of;
-use zy_text::usual::{link_line, run_line};
 
 impl Reader {
     /// Takes a line below the header, whose first word is this keyword.
@@ -107,9 +106,7 @@ impl Reader {
         self.worded_line(words)
     }
 
-    /// Takes a text's first line, and gives what is below it. The lines that most schedules have most of are cut without
-    /// a search for the ends of their words.
-    #[inline(always)]
+    /// Takes a text's first line, and gives what is below it.
     fn take<'a>(&mut self, words: &mut Words<'a>, text: &'a [u8]) -> (Result<(), Reason>, &'a [u8])
         requires { 0 < length text.now }
         ensures step { Steps result.0 (progress_of self.new)
@@ -117,16 +114,6 @@ impl Reader {
         ensures below { lines_of result.1.now ≡ lines_below text.entry.now }
         ensures shorter { length result.1.now < length text.entry.now }
     {
-        if let Some(line) = run_line(text) {
-            if let Some(choice) = self.usual_choice(line.actor, line.action, line.t) {
-                return (self.add_choice(choice), line.below);
-            }
-        }
-        if let Some(line) = link_line(text) {
-            if let Some(choice) = self.usual_plain(line.actor, line.action) {
-                return (self.add_choice(choice), line.below);
-            }
-        }
         let below = take_line(words, text);
         (self.line(words.as_slice()), below)
     }
@@ -164,6 +151,12 @@ pub fn read(alloc: Global, text: &str) -> Result<Reader, LineFault>
     let mut rest = text.as_bytes();
     let mut line = 1usize;
     while !rest.is_empty() {
+        // Apart from the others, since the bookkeeping of faults is a fifth of what such a line takes.
+        if let Some(below) = reader.take_usual(rest) {
+            rest = below;
+            line += 1;
+            continue;
+        }
         let (outcome, below) = reader.take(&mut words, rest);
         rest = below;
         if let Err(reason) = outcome {

@@ -1,17 +1,56 @@
 //! The lines that most texts have most of, which are tried first.
-ghost use Rattle.std.specs.Prelude.{◌≡◌, ◌<◌, ◌∷◌, ◌++◌, [], length, map, IfSome, Ok};
+ghost use Rattle.std.specs.Prelude.{◌≡◌, ◌<◌, ◌∷◌, ◌++◌, [], length, map, IfSome, None, Ok};
 ghost use Rattle.zy_isa.specs.Limits.{max_instrs, max_choices};
 ghost use Rattle.zy_asm.specs.Pending.{pending_of, whole};
 ghost use Rattle.zy_asm.specs.Reading.{line_step};
 ghost use Rattle.zy_asm.specs.Reading.Progress.{Steps, progress_of};
+ghost use Rattle.zy_text.specs.Words.{lines_of, words_of};
+ghost use Rattle.zy_text.specs.Lines.{first_line, first_words, lines_below};
 
 use crate::choices::{actor_of, numbered_choice, plain_choice};
 use crate::faults::Reason;
 use crate::instructions::whole_of;
 use crate::state::{Reader, Stage};
 use zy_isa::{Choice, Instr, MAX_CHOICES, MAX_INSTRS, Operation};
+use zy_text::usual::{link_line, run_line};
 
 impl Reader {
+    /// Takes a text's first line, if it is one of those that most schedules have most of, and gives what is below it. Such a
+    /// line is cut without a search for the ends of its words. Where there is no memory, nothing is taken.
+    #[inline(always)]
+    pub fn take_usual<'a>(&mut self, text: &'a [u8]) -> Option<&'a [u8]>
+        ensures step { IfSome result (λ below. line_step (progress_of self.old) (first_words (words_of (first_line text.entry.now)))
+            ≡ Ok (progress_of self.new)) }
+        ensures below { IfSome result (λ below. lines_of below.now ≡ lines_below text.entry.now) }
+        ensures shorter { IfSome result (λ below. length below.now < length text.entry.now) }
+        ensures other { result ≡ None → progress_of self.new ≡ progress_of self.old }
+    {
+        if let Some(line) = run_line(text) {
+            let choice = self.usual_choice(line.actor, line.action, line.t)?;
+            return self.with_choice(choice, line.below);
+        }
+        if let Some(line) = link_line(text) {
+            let choice = self.usual_plain(line.actor, line.action)?;
+            return self.with_choice(choice, line.below);
+        }
+        None
+    }
+
+    /// Puts a choice behind the others, and gives what is below its line, if there is memory.
+    #[inline(always)]
+    fn with_choice<'a>(&mut self, choice: Choice, below: &'a [u8]) -> Option<&'a [u8]>
+        requires { length self.old.choices.items < max_choices }
+        ensures same { IfSome result (λ rest. rest.now ≡ below.entry.now) }
+        ensures taken { IfSome result (λ rest.
+            progress_of self.new ≡ record (progress_of self.old) { choices = self.old.choices.items ++ choice ∷ [] }) }
+        ensures other { result ≡ None → progress_of self.new ≡ progress_of self.old }
+    {
+        if self.choices.push(choice).is_err() {
+            return None;
+        }
+        Some(below)
+    }
+
     /// The choice of a line, where it is made once and names its transaction by number, as most do, and there is place
     /// for it.
     #[inline(always)]
