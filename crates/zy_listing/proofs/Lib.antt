@@ -1,4 +1,4 @@
 mod ListingLemmas
 mod Worked
 mod LinkLemmas
-mod RunLemmas
+pub mod RunLemmas

@@ -34,18 +34,11 @@ pub length-taken : (es : List Entry) → length (map choice_text (choices_of es)
 length-taken [] = refl
 length-taken (e ∷ es) = ap (λ n. suc n) (length-taken es)
 
--- what holds of the line at a place of the list holds of its step
-pub step-line : (P : List ℕ → Type 0) (k : ℕ) (d : Entry) (es : List Entry) → k < length (step_texts 1 es) → P (step_text (k + 1) (get_or es k d))
-    → P (get_or (step_texts 1 es) k [])
-step-line P k d es h told =
+-- the line at a place of the list is that of its step
+pub step-at : (k : ℕ) (d : Entry) (es : List Entry) → k < length (step_texts 1 es) → get_or (step_texts 1 es) k [] ≡ step_text (k + 1) (get_or es k d)
+step-at k d es h =
     let lt : k < length es = omega (arith, h, length-steps 1 es) in
-    subst P (sym (steps-at 1 k d es lt ∙ ap (λ n. step_text n (get_or es k d)) (omega arith))) told
-
--- what holds of the line of a choice at a place of the list holds of its choice
-pub taken-line : (P : List ℕ → Type 0) (k : ℕ) (d : Entry) (es : List Entry) → k < length (map choice_text (choices_of es))
-    → P (choice_text (get_or es k d).choice) → P (get_or (map choice_text (choices_of es)) k [])
-taken-line P k d es h told =
-    let lt : k < length es = omega (arith, h, length-taken es) in subst P (sym (taken-at k d es lt)) told
+    steps-at 1 k d es lt ∙ ap (λ n. step_text n (get_or es k d)) (omega arith)
 
 -- the lines that are written are the listing of the replay
 pub listing-lines : (h : History) (same : Bool) → IsReplay h

@@ -4,9 +4,13 @@ use Rattle.zy_io.specs.Writing.{Wrote}
 use Rattle.zy_io.specs.declared.writing.TextFault.{TextFault}
 use Rattle.zy_isa.specs.Scenario.{Scenario}
 use Rattle.zy_table.specs.Play.{entries, play, opening}
-use Rattle.zy_machine.specs.Histories.{History}
+use Rattle.zy_machine.specs.Histories.{choices_of, History}
 use Rattle.zy_listing.specs.Listing.{listing}
 use Rattle.zy_serial.specs.SameMaps.{is_serial}
+
+-- the listing of a machine, with what the test against the serial run says at its end
+abbrev pub listing_of : History → List ℕ
+listing_of m = listing m.scenario (choices_of m.entries) (is_serial m.scenario m.state)
 
 -- the listing of a scenario under its choices, with what the test against the serial run says at its end
 abbrev pub listing_run : Scenario → List ℕ

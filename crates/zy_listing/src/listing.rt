@@ -3,7 +3,7 @@ ghost use Rattle.std.specs.Prelude.{◌<◌};
 ghost use Rattle.zy_io.specs.Writing.{Wrote};
 ghost use Rattle.zy_machine.specs.Histories.{choices_of};
 ghost use Rattle.zy_listing.specs.Listing.{listing};
-ghost use Rattle.zy_serial.specs.SameMaps.{is_serial};
+ghost use Rattle.zy_listing.specs.Run.{listing_of};
 
 use crate::lines::final_state::FinalState;
 use crate::lines::serial::SerialLine;
@@ -11,7 +11,7 @@ use crate::lines::step::Steps;
 use crate::lines::taken::Taken;
 use std::alloc::Global;
 use zy_disasm::ScenarioHead;
-use zy_io::{AllLines, LineBuffer, One, Section, Sink, TextFault, sections};
+use zy_io::{AllPieces, LineBuffer, One, Section, Sink, TextFault, sections};
 use zy_machine::Machine;
 use zy_serial::serial::same;
 
@@ -30,10 +30,10 @@ pub(crate) fn write_listing_as<K: Sink>(
     let entries = machine.entries();
     sections!(
         ScenarioHead(machine.scenario()),
-        AllLines(Taken(entries)),
+        AllPieces(Taken(entries)),
         One("end"),
         One("steps"),
-        AllLines(Steps(entries)),
+        AllPieces(Steps(entries)),
         FinalState(machine),
         One(SerialLine(same)),
         One("end"),
@@ -49,8 +49,7 @@ pub fn write_listing<K: Sink>(
 ) -> Result<(), TextFault>
     requires { K.failures sink.old < u64.MAX }
     ensures { Wrote (K.written sink.old) (K.written sink.new) (K.failures sink.old) (K.failures sink.new) result
-        (listing machine.now.scenario (choices_of machine.now.entries)
-        (is_serial machine.now.scenario machine.now.state)) }
+        (listing_of machine.now) }
 {
     let agrees = same(alloc, machine)?;
     write_listing_as(alloc, machine, agrees, sink)

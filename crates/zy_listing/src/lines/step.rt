@@ -4,7 +4,7 @@ ghost use Rattle.zy_listing.specs.Listing.{step_texts};
 
 use crate::lines::words::{KindText, OutcomePiece};
 use std::alloc::AllocError;
-use zy_io::{Decimal, Line, LineBuffer, Lines, Piece, joined};
+use zy_io::{Decimal, Line, LineBuffer, Piece, PieceLines, joined};
 use zy_model::Kind;
 use zy_table::Entry;
 use zy_text::Canonical;
@@ -34,20 +34,31 @@ pub struct StepLine<'a> {
     pub entry: &'a Entry,
 }
 
-impl Line for StepLine<'_> {
+impl Piece for StepLine<'_> {
     ghost text = { λ s. step_text s.number s.entry.now };
 
+    ghost most = { 130 };
+
     #[inline(always)]
-    fn append(&self, line: &mut LineBuffer) -> Result<(), AllocError> {
+    fn put_behind(self, bytes: Vec<u8>) -> Vec<u8> {
         let entry = self.entry;
-        line.push_piece(joined!(
+        joined!(
             Decimal(self.number),
             b" ",
             Canonical(entry.choice),
             b" -> ",
             OutcomePiece(&entry.outcome),
             SentText(&entry.sent),
-        ))
+        )
+        .put_behind(bytes)
+    }
+}
+
+impl Line for StepLine<'_> {
+    ghost text = { λ s. step_text s.number s.entry.now };
+
+    fn append(&self, line: &mut LineBuffer) -> Result<(), AllocError> {
+        line.push_piece(*self)
     }
 }
 
@@ -55,7 +66,9 @@ impl Line for StepLine<'_> {
 #[derive(Clone, Copy)]
 pub(crate) struct Steps<'a>(pub &'a [Entry]);
 
-impl Lines for Steps<'_> {
+impl<'a> PieceLines for Steps<'a> {
+    type Text = StepLine<'a>;
+
     ghost texts = { λ s. step_texts 1 s.0.now };
 
     fn len(&self) -> usize {
@@ -63,9 +76,10 @@ impl Lines for Steps<'_> {
     }
 
     #[inline(always)]
-    fn append(&self, place: usize, line: &mut LineBuffer) -> Result<(), AllocError> {
-        let number = place + 1;
-        let entry = &self.0[place];
-        StepLine { number, entry }.append(line)
+    fn line(&self, place: usize) -> StepLine<'a> {
+        StepLine {
+            number: place + 1,
+            entry: &self.0[place],
+        }
     }
 }

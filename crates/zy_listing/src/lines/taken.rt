@@ -3,8 +3,8 @@ ghost use Rattle.std.specs.Prelude.{map};
 ghost use Rattle.zy_text.specs.Canon.{choice_text};
 ghost use Rattle.zy_machine.specs.Histories.{choices_of};
 
-use std::alloc::AllocError;
-use zy_io::{Line, LineBuffer, Lines};
+use zy_io::PieceLines;
+use zy_isa::Choice;
 use zy_table::Entry;
 use zy_text::Canonical;
 
@@ -12,7 +12,9 @@ use zy_text::Canonical;
 #[derive(Clone, Copy)]
 pub(crate) struct Taken<'a>(pub &'a [Entry]);
 
-impl Lines for Taken<'_> {
+impl PieceLines for Taken<'_> {
+    type Text = Canonical<Choice>;
+
     ghost texts = { λ s. map choice_text (choices_of s.0.now) };
 
     fn len(&self) -> usize {
@@ -20,7 +22,7 @@ impl Lines for Taken<'_> {
     }
 
     #[inline(always)]
-    fn append(&self, place: usize, line: &mut LineBuffer) -> Result<(), AllocError> {
-        Canonical(self.0[place].choice).append(line)
+    fn line(&self, place: usize) -> Canonical<Choice> {
+        Canonical(self.0[place].choice)
     }
 }

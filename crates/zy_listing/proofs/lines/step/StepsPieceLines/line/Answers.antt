@@ -1,11 +1,10 @@
 -- A place among the texts is that of a step.
-use Rattle.std.proofs.Common.{◌<◌, length, arith, rules}
-use Rattle.zy_io.specs.Writing.{Appended}
-use Rattle.zy_listing.proofs.ListingLemmas.{length-steps, step-line}
-use Rattle.zy_listing.proofs.lines.step.StepsLines.append.Goals as goal
+use Rattle.std.proofs.Common.{◌<◌, length, sym, arith, rules}
+use Rattle.zy_listing.proofs.ListingLemmas.{length-steps, step-at}
+use Rattle.zy_listing.proofs.lines.step.StepsPieceLines.line.Goals as goal
 
-pub overflow_add-number : goal.overflow_add-number
-overflow_add-number c =
+pub overflow_add-result : goal.overflow_add-result
+overflow_add-result c =
     let h : c.args.place < length c.args.self.now.0.now = omega (arith, c.requires, length-steps 1 c.args.self.now.0.now) in
     search rules
 
@@ -17,6 +16,5 @@ offset_bounds-self-place c =
 pub bounds-self-place : goal.bounds-self-place
 bounds-self-place c = omega (arith, c.requires, length-steps 1 c.args.self.now.0.now)
 
-pub returns : goal.returns
-returns c =
-    step-line (Appended c.append.result c.args.line.now c.append.new.line) c.args.place _ c.args.self.now.0.now c.requires c.append.ensures
+pub returns-clause-text : goal.returns-clause-text
+returns-clause-text c = sym (step-at c.args.place _ c.args.self.now.0.now c.requires)
