@@ -1,3 +1,5 @@
 pub mod NamedLemmas
 pub mod PossibleSteps
 pub mod Worked
+pub mod WordLemmas
+pub mod FullLemmas

@@ -1,5 +1,5 @@
 -- What a step gives, its choice can give: a walk over the lines of the step table.
-use Rattle.std.proofs.Common.{◌≡◌, ℕ, List, [], ◌∷◌, length, true, not, nat_lt, nat_le, ◌&&◌, ◌||◌, Option, Some, None, refl, subst}
+use Rattle.std.proofs.Common.{◌≡◌, ℕ, List, [], ◌∷◌, length, true, not, nat_lt, nat_le, ◌&&◌, ◌||◌, Option, Some, None, refl}
 use Rattle.std.proofs.lemmas.Bool.{cond_both, or_left, or_right, false≢true}
 use Rattle.zy_isa.specs.Limits.{max_key}
 use Rattle.zy_isa.specs.declared.node.Node.{Node}
@@ -39,60 +39,18 @@ use Rattle.zy_patterns.specs.declared.patterns.ReasonPattern.{ReasonPattern}
 use Rattle.zy_patterns.specs.declared.patterns.ReasonPattern.TheVariants as reason
 use Rattle.zy_patterns.specs.declared.patterns.OutcomePattern.{OutcomePattern}
 use Rattle.zy_patterns.specs.declared.patterns.OutcomePattern.TheVariants as pattern
-use Rattle.zy_patterns.specs.Patterns.{matches, matches_reason}
+use Rattle.zy_patterns.specs.Patterns.{matches, matches_reason, exactly, exactly_reason}
 use Rattle.zy_logs.specs.Possible.{is_kill, is_run, can_abort, can_give}
 
--- ---- what a line gives in full
-
--- why a transaction was aborted, in full
-abbrev reason_of : Why → ReasonPattern
-reason_of why.Own = reason.Own
-reason_of why.Killed = reason.Killed
-reason_of why.BadKey = reason.BadKey
-reason_of why.Missing = reason.Missing
-reason_of why.Duplicate = reason.Duplicate
-reason_of (why.Frozen p) = reason.Frozen (Some p)
-reason_of why.NoPage = reason.NoPage
-reason_of (why.Gone p) = reason.Gone (Some p)
-
--- an outcome, in full
-abbrev in_full : Outcome → OutcomePattern
-in_full outcome.Started = pattern.Started
-in_full outcome.BadMode = pattern.BadMode
-in_full (outcome.Began n) = pattern.Began (Some n)
-in_full outcome.Idle = pattern.Idle
-in_full outcome.Elsewhere = pattern.Elsewhere
-in_full outcome.NotYet = pattern.NotYet
-in_full outcome.Did = pattern.Did
-in_full (outcome.Split p q k) = pattern.Split (Some p) (Some q) (Some k)
-in_full (outcome.Aborted w) = pattern.Aborted (Some (reason_of w))
-in_full (outcome.Committed i) = pattern.Committed (Some i)
-in_full (outcome.Waits p) = pattern.Waits (Some p)
-in_full (outcome.Pulls p) = pattern.Pulls (Some p)
-in_full (outcome.Awaits p) = pattern.Awaits (Some p)
-in_full outcome.NoMessage = pattern.NoMessage
-in_full outcome.GotWire = pattern.GotWire
-in_full outcome.GotReady = pattern.GotReady
-in_full outcome.GotDual = pattern.GotDual
-in_full (outcome.Stale p) = pattern.Stale (Some p)
-in_full (outcome.Held p) = pattern.Held (Some p)
-in_full (outcome.GotPull p) = pattern.GotPull (Some p)
-in_full (outcome.GotPage p) = pattern.GotPage (Some p)
-in_full outcome.GotFinish = pattern.GotFinish
-in_full outcome.GotDone = pattern.GotDone
-in_full outcome.Stray = pattern.Stray
-in_full outcome.Finishing = pattern.Finishing
-in_full (outcome.Active t) = pattern.Active (Some t)
-in_full (outcome.Pushed p) = pattern.Pushed (Some p)
-in_full outcome.NoPush = pattern.NoPush
+-- ---- what a line gives
 
 -- a choice can give an outcome
 abbrev Gives : Choice → Outcome → Type 0
-Gives c o = can_give c (in_full o) ≡ true
+Gives c o = can_give c (exactly o) ≡ true
 
 -- ---- what a line gives of it, as far as it does
 
-reason_told : (c : Choice) (r : ReasonPattern) (w : Why) → matches_reason r w ≡ true → can_abort c (reason_of w) ≡ true → can_abort c r ≡ true
+reason_told : (c : Choice) (r : ReasonPattern) (w : Why) → matches_reason r w ≡ true → can_abort c (exactly_reason w) ≡ true → can_abort c r ≡ true
 reason_told c reason.Own why.Own e g = g
 reason_told c reason.Killed why.Killed e g = g
 reason_told c reason.BadKey why.BadKey e g = g
@@ -118,13 +76,13 @@ any_reason c (reason.Gone page) e = or_right (is_kill c) (is_run c) e
 told_possible : (c : Choice) (t : OutcomePattern) (o : Outcome) → matches t o ≡ true → Gives c o → can_give c t ≡ true
 told_possible c pattern.Started outcome.Started e g = g
 told_possible c pattern.BadMode outcome.BadMode e g = g
-told_possible c (pattern.Began node) (outcome.Began n) e g = g
+told_possible c (pattern.Began asked) (outcome.Began n) e g = g
 told_possible c pattern.Idle outcome.Idle e g = g
 told_possible c pattern.Elsewhere outcome.Elsewhere e g = g
 told_possible c pattern.NotYet outcome.NotYet e g = g
 told_possible c pattern.Did outcome.Did e g = g
 told_possible c (pattern.Split page new_page boundary) (outcome.Split p q k) e g = g
-told_possible c (pattern.Aborted None) (outcome.Aborted w) e g = any_reason c (reason_of w) g
+told_possible c (pattern.Aborted None) (outcome.Aborted w) e g = any_reason c (exactly_reason w) g
 told_possible c (pattern.Aborted (Some r)) (outcome.Aborted w) e g = reason_told c r w e g
 told_possible c (pattern.Committed place) (outcome.Committed i) e g = g
 told_possible c (pattern.Waits page) (outcome.Waits p) e g = g
@@ -406,3 +364,8 @@ moves sc (Push n) s = pushes n s
 pub step_possible : (sc : Scenario) (c : Choice) (s : State) (t : OutcomePattern) → matches t (step sc c s).outcome ≡ true → can_give c t ≡ true
 unfolding step
 step_possible sc c s t e = told_possible c t (step sc c s).outcome e (moves sc c (facing (side_of sc c s) s))
+
+-- so it can give all of it
+pub step_exactly : (sc : Scenario) (c : Choice) (s : State) → can_give c (exactly (step sc c s).outcome) ≡ true
+unfolding step
+step_exactly sc c s = moves sc c (facing (side_of sc c s) s)

@@ -1,5 +1,6 @@
 -- Worked lines: what some words spell, and what agrees with it, computed.
 use Rattle.std.proofs.Common.{◌≡◌, true, ℕ, ◌++◌, List, [], ◌∷◌, None, Some, Ok, Err, codes, refl}
+use Rattle.std.specs.Fmt.{digits}
 use Rattle.zy_isa.specs.declared.node.Node.TheVariants.{A, B}
 use Rattle.zy_isa.specs.declared.node.Actor.TheVariants as actor
 use Rattle.zy_isa.specs.declared.choice.Choice.TheVariants.{Take, Push, Run, Begin, Kill}
@@ -14,6 +15,7 @@ use Rattle.zy_logs.specs.declared.txns.Txns.{Txns}
 use Rattle.zy_logs.specs.Txns.{place}
 use Rattle.zy_patterns.specs.Vocabulary as word
 use Rattle.zy_patterns.specs.Patterns.{matches}
+use Rattle.zy_logs.specs.InFull.{step_words}
 use Rattle.zy_logs.specs.Lines as line
 use Rattle.zy_logs.specs.Lines.{line_of}
 use Rattle.zy_logs.specs.Logs.{logs_of}
@@ -156,3 +158,13 @@ page_told = refl
 -- any page may come where none was logged
 page_left_out : matches (pattern.Waits None) (outcome.Waits 7) ≡ true
 page_left_out = refl
+
+-- all of a step, in words
+all_told : step_words (record { choice = Take A; outcome = outcome.GotPull 1; sent = Some message.Page }) ≡ words_of (codes "A take -> got pull 1 ! page")
+unfolding digits
+all_told = refl
+
+-- one that sent no message
+all_told_alone : step_words (record { choice = Begin 0; outcome = outcome.Began B; sent = None }) ≡ words_of (codes "C begin 0 -> began B")
+unfolding digits
+all_told_alone = refl

@@ -1,4 +1,5 @@
 pub mod Agrees
+pub mod InFull
 pub mod Possible
 pub mod Kinds
 pub mod Words

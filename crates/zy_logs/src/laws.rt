@@ -1,15 +1,23 @@
 //! What holds of all logs that are read: each function is a law, and its contract is all of it.
-ghost use Rattle.std.specs.Prelude.{◌≡◌, ◌≤◌, ℕ, List, Ok, true};
+ghost use Rattle.std.specs.Prelude.{◌≡◌, ◌≤◌, ◌++◌, ℕ, List, Ok, true};
 ghost use Rattle.zy_isa.specs.declared.choice.Choice.{Choice as AChoice};
+ghost use Rattle.zy_isa.specs.Choices.{names_below};
+ghost use Rattle.zy_isa.specs.Limits.{max_txns};
 ghost use Rattle.zy_isa.specs.Scenario.{AreNamed, Scenario as AScenario};
+ghost use Rattle.zy_table.specs.declared.entry.Entry.{Entry as AnEntry};
+ghost use Rattle.zy_table.specs.declared.outcome.Outcome.{Outcome as AnOutcome};
 ghost use Rattle.zy_table.specs.Play.{step};
 ghost use Rattle.zy_table.specs.State.{State};
 ghost use Rattle.zy_logs.specs.declared.logs.NumberedLine.{NumberedLine as ALine};
+ghost use Rattle.zy_logs.specs.declared.log_line.Logged.TheVariants.{Step};
 ghost use Rattle.zy_logs.specs.declared.txns.Txns.{Txns as SomeTxns};
+ghost use Rattle.zy_logs.specs.InFull.{IsTold, in_full, outcome_words, step_words};
+ghost use Rattle.zy_logs.specs.Lines.{line_of, outcome_of};
 ghost use Rattle.zy_logs.specs.Logs.{choices_of, logs_of, steps_in};
 ghost use Rattle.zy_logs.specs.Possible.{can_give};
+ghost use Rattle.zy_logs.specs.Words.{Word as AWord};
 ghost use Rattle.zy_patterns.specs.declared.patterns.OutcomePattern.{OutcomePattern as APattern};
-ghost use Rattle.zy_patterns.specs.Patterns.{matches};
+ghost use Rattle.zy_patterns.specs.Patterns.{exactly, matches};
 
 /// The lines that a text spells name transactions that there are, and count for no more steps than there may be.
 pub fn logs_fit()
@@ -24,4 +32,14 @@ pub fn logs_fit()
 pub fn steps_are_possible()
     ensures { (sc : AScenario) → (c : AChoice) → (s : State) → (told : APattern) → matches told (step sc c s).outcome ≡ true
         → can_give c told ≡ true }
+{}
+
+/// The words that tell all of an outcome are read, before whatever words follow, as the pattern that leaves nothing of it out. All of
+/// a step is read so: its choice, its outcome, and the message that was sent, if one was.
+pub fn told_in_full()
+    ensures outcome { (txns : SomeTxns) → txns.count ≤ max_txns → (told : AnOutcome) → IsTold txns.count told → (rest : List AWord)
+        → outcome_of txns (outcome_words told ++ rest) ≡ Ok (exactly told, rest) }
+    ensures line { (txns : SomeTxns) → txns.count ≤ max_txns → (e : AnEntry) → names_below txns.count e.choice ≡ true
+        → IsTold txns.count e.outcome → can_give e.choice (exactly e.outcome) ≡ true
+        → line_of txns (step_words e) ≡ Ok (Step (in_full e)) }
 {}

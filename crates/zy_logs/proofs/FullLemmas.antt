@@ -1,0 +1,299 @@
+-- A line that leaves nothing of a step out is read as that.
+use Rattle.std.proofs.Common.{◌≡◌, ◌∙◌, ℕ, ◌^◌, ◌<◌, ◌≤◌, true, false, ◌==◌, nat_le, nat_lt, List, [], ◌∷◌, ◌++◌, length, codes, Some, None, Option}
+use Rattle.std.proofs.Common.{Ok, refl, ap, arith, if◌then◌else◌}
+use Rattle.std.specs.Fmt.{decimal}
+use Rattle.std.specs.Char.{is_ascii_digit}
+use Rattle.std.specs.Str.{all_ascii_digits}
+use Rattle.std.proofs.lemmas.Bool.{le-leb, lt-ltb}
+use borrow.Author.Tests.{tests}
+use Rattle.zy_isa.specs.declared.node.Node.{Node}
+use Rattle.zy_isa.specs.declared.node.Node.TheVariants.{A, B}
+use Rattle.zy_isa.specs.declared.choice.Choice.{Choice}
+use Rattle.zy_isa.specs.declared.choice.Choice.TheVariants.{Start, Begin, Kill, Run, Take, Finish, Push}
+use Rattle.zy_isa.specs.Choices.{names_below}
+use Rattle.zy_isa.specs.Results.{◌>>=◌}
+use Rattle.zy_isa.proofs.ResultLemmas.{both}
+use Rattle.zy_model.specs.declared.kind.Kind.{Kind}
+use Rattle.zy_model.specs.declared.kind.Kind.TheVariants as kind
+use Rattle.zy_table.specs.declared.entry.Entry.{Entry}
+use Rattle.zy_table.specs.declared.outcome.Why.{Why}
+use Rattle.zy_table.specs.declared.outcome.Why.TheVariants as why
+use Rattle.zy_table.specs.declared.outcome.Outcome.{Outcome}
+use Rattle.zy_table.specs.declared.outcome.Outcome.TheVariants as outcome
+use Rattle.zy_text.specs.Canon.{node_text, choice_words}
+use Rattle.zy_text.specs.Names.{is_name}
+use Rattle.zy_text.specs.Words.{number_of, is_numeral}
+use Rattle.zy_patterns.specs.declared.paged.PagedOutcome.{PagedOutcome}
+use Rattle.zy_patterns.specs.declared.paged.PagedOutcome.TheVariants as paged
+use Rattle.zy_patterns.specs.declared.patterns.OutcomePattern.{OutcomePattern}
+use Rattle.zy_patterns.specs.declared.patterns.OutcomePattern.TheVariants as pattern
+use Rattle.zy_patterns.specs.declared.patterns.ReasonPattern.TheVariants as reason_pattern
+use Rattle.zy_patterns.specs.Paged.{with_page}
+use Rattle.zy_patterns.specs.Patterns.{exactly, exactly_reason}
+use Rattle.zy_patterns.specs.Vocabulary as word
+use Rattle.zy_logs.specs.declared.expected.ExpectedInLog.TheVariants as expected
+use Rattle.zy_logs.specs.declared.log_line.LogLine.{LogLine}
+use Rattle.zy_logs.specs.declared.log_line.Logged.TheVariants.{Step}
+use Rattle.zy_logs.specs.declared.txns.Txns.{Txns}
+use Rattle.zy_logs.specs.InFull.{in_full, IsPage, HasPage, IsTold, reason_words, outcome_words, sent_words, step_words}
+use Rattle.zy_logs.specs.Words.{Word, Read, after, are_none, begin_with, end_outcome, refused, gives, made}
+use Rattle.zy_logs.specs.Txns.{named}
+use Rattle.zy_logs.specs.Parts.{or_none, number, page, place, numbered, txn, node_at, reason}
+use Rattle.zy_logs.specs.Lines as line
+use Rattle.zy_logs.specs.Lines.{split, outcome_of, choice_of, possible, told_of, logged, message, sent_of, whole, gap_or_step, placed, line_of}
+use Rattle.zy_logs.specs.Possible.{can_give}
+use Rattle.zy_logs.proofs.WordLemmas.{number_of-decimal, digits_of, decimal_some}
+
+-- opens the definitions of what words begin with
+unfoldable open_all : ℕ
+unfolding word.node word.kind word.lone_reason word.lone_outcome word.lone_got word.paged_outcome word.paged_got line.outcome_of
+open_all = 0
+
+-- ---- numbers
+
+-- a word that begins with a digit
+abbrev Digits : Word → Type 0
+Digits w = (0 < length w) × (all_ascii_digits w ≡ true)
+
+-- it is a numeral
+are_numeral : (w : Word) → Digits w → is_numeral w ≡ true
+are_numeral [] d = absurd (omega (arith, d.0))
+are_numeral (b ∷ bs) d = (both (is_ascii_digit b) (all_ascii_digits bs) d.1).0
+
+-- a digit is no `!`
+no_mark : (b : ℕ) → is_ascii_digit b ≡ true → (b == 33) ≡ false
+no_mark b h = grind (arith, tests)
+
+-- so an outcome does not end before it
+goes_on : (w : Word) (ws : List Word) → Digits w → end_outcome (w ∷ ws) ≡ false
+goes_on [] ws d = absurd (omega (arith, d.0))
+goes_on (b ∷ bs) ws d = rw (no_mark b (both (is_ascii_digit b) (all_ascii_digits bs) d.1).0) refl
+
+-- the digits of a number of 32 bits
+decimal_digits : (n : ℕ) → n < 2 ^ 32 → Digits (decimal n)
+decimal_digits n h = (decimal_some n h, digits_of n h)
+
+-- a part that is read where an outcome does not end
+given : {T : Type 0} (part : List Word → Read T) (ws rest : List Word) (x : T) → end_outcome ws ≡ false → part ws ≡ Ok (x, rest)
+    → or_none part ws ≡ Ok (Some x, rest)
+given part ws rest x e h = ap (λ b. if b then Ok (None, ws) else made Some (part ws)) e ∙ ap (made Some) h
+
+-- a number that is small enough
+number_given : (most n : ℕ) (w : Word) (rest : List Word) → number_of w ≡ Some n → n ≤ most → number most (w ∷ rest) ≡ Ok (n, rest)
+number_given most n w rest e h =
+    let ws = w ∷ rest in
+    let after_digits : Option ℕ → Read ℕ = λ o. gives o expected.Number ws >>= λ m. if nat_le m.0 most then Ok m else refused (expected.AtMost most) ws in
+    ap after_digits e ∙ ap (λ b. if b then Ok (n, rest) else refused (expected.AtMost most) ws) (le-leb n most h)
+
+-- the number of a transaction that there is
+numbered_given : (count t : ℕ) (w : Word) (rest : List Word) → number_of w ≡ Some t → t < count → numbered count (w ∷ rest) ≡ Ok (t, rest)
+numbered_given count t w rest e h =
+    let ws = w ∷ rest in
+    let after_digits : Option ℕ → Read ℕ = λ o. gives o expected.Number ws >>= λ m. if nat_lt m.0 count then Ok m else refused expected.KnownTxn ws in
+    ap after_digits e ∙ ap (λ b. if b then Ok (t, rest) else refused expected.KnownTxn ws) (lt-ltb t count h)
+
+-- a page or a key
+page_given : (p : ℕ) (rest : List Word) → IsPage p → or_none page (decimal p ∷ rest) ≡ Ok (Some p, rest)
+page_given p rest h =
+    let few : p < 2 ^ 32 = omega (arith, h) in
+    given page (decimal p ∷ rest) rest p (goes_on (decimal p) rest (decimal_digits p few))
+    (number_given 65535 p (decimal p) rest (number_of-decimal p few) h)
+
+-- the number of a commit
+place_given : (i : ℕ) (rest : List Word) → i ≤ 64 → or_none place (decimal i ∷ rest) ≡ Ok (Some i, rest)
+place_given i rest h =
+    let few : i < 2 ^ 32 = omega (arith, h) in
+    given place (decimal i ∷ rest) rest i (goes_on (decimal i) rest (decimal_digits i few))
+    (number_given 64 i (decimal i) rest (number_of-decimal i few) h)
+
+-- a transaction by its number
+txn_given : (txns : Txns) (t : ℕ) (rest : List Word) → txns.count ≤ 64 → t < txns.count → txn txns (decimal t ∷ rest) ≡ Ok (t, rest)
+txn_given txns t rest most h =
+    let few : t < 2 ^ 32 = omega (arith, most, h) in
+    let w = decimal t in
+    let ws = w ∷ rest in
+    let other = if is_name w then gives (named txns w) expected.KnownTxn ws else refused expected.Txn ws in
+    ap (λ b. if b then numbered txns.count ws else other) (are_numeral w (decimal_digits t few))
+    ∙ numbered_given txns.count t (decimal t) rest (number_of-decimal t few) h
+
+-- ---- an outcome
+
+-- of one page
+paged_given : (x : PagedOutcome) (p : ℕ) (rest : List Word) → IsPage p
+    → made (with_page x) (or_none page (decimal p ∷ rest)) ≡ Ok (with_page x (Some p), rest)
+paged_given x p rest h = ap (made (with_page x)) (page_given p rest h)
+
+-- a split
+split_given : (p q k : ℕ) (rest : List Word) → IsPage p → IsPage q → IsPage k
+    → split (decimal p ∷ decimal q ∷ decimal k ∷ rest) ≡ Ok (pattern.Split (Some p) (Some q) (Some k), rest)
+split_given p q k rest h i j =
+    let third : Option ℕ → Option ℕ → Read (Option ℕ) → Read OutcomePattern = λ a b r. r >>= λ c. Ok (pattern.Split a b c.0, c.1) in
+    let second : Option ℕ → Read (Option ℕ) → Read OutcomePattern = λ a r. r >>= λ b. third a b.0 (or_none page b.1) in
+    let all : Read (Option ℕ) → Read OutcomePattern = λ r. r >>= λ a. second a.0 (or_none page a.1) in
+    ap all (page_given p (decimal q ∷ decimal k ∷ rest) h)
+    ∙ ap (second (Some p)) (page_given q (decimal k ∷ rest) i)
+    ∙ ap (third (Some p) (Some q)) (page_given k rest j)
+
+-- a reason
+reason_given : (w : Why) (rest : List Word) → HasPage w → or_none reason (reason_words w ++ rest) ≡ Ok (Some (exactly_reason w), rest)
+unfolding open_all
+reason_given (why.Frozen p) rest h = ap (λ r. made Some (made reason_pattern.Frozen r)) (page_given p rest h)
+reason_given (why.Gone p) rest h = ap (λ r. made Some (made reason_pattern.Gone r)) (page_given p rest h)
+reason_given why.Own rest h = refl
+reason_given why.Killed rest h = refl
+reason_given why.BadKey rest h = refl
+reason_given why.Missing rest h = refl
+reason_given why.Duplicate rest h = refl
+reason_given why.NoPage rest h = refl
+
+-- a node
+node_given : (n : Node) (rest : List Word) → or_none node_at (node_text n ∷ rest) ≡ Ok (Some n, rest)
+unfolding open_all
+node_given A rest = refl
+node_given B rest = refl
+
+-- an outcome is read as the pattern that leaves nothing out
+pub outcome_given : (txns : Txns) (o : Outcome) (rest : List Word) → txns.count ≤ 64 → IsTold txns.count o
+    → outcome_of txns (outcome_words o ++ rest) ≡ Ok (exactly o, rest)
+unfolding open_all
+outcome_given txns outcome.Started rest most h = refl
+outcome_given txns outcome.BadMode rest most h = refl
+outcome_given txns (outcome.Began n) rest most h = ap (made pattern.Began) (node_given n rest)
+outcome_given txns outcome.Idle rest most h = refl
+outcome_given txns outcome.Elsewhere rest most h = refl
+outcome_given txns outcome.NotYet rest most h = refl
+outcome_given txns outcome.Did rest most h = refl
+outcome_given txns (outcome.Split p q k) rest most h = split_given p q k rest h.0 h.1 h.2
+outcome_given txns (outcome.Aborted w) rest most h = ap (made pattern.Aborted) (reason_given w rest h)
+outcome_given txns (outcome.Committed i) rest most h = ap (made pattern.Committed) (place_given i rest h)
+outcome_given txns (outcome.Waits p) rest most h = paged_given paged.Waits p rest h
+outcome_given txns (outcome.Pulls p) rest most h = paged_given paged.Pulls p rest h
+outcome_given txns (outcome.Awaits p) rest most h = paged_given paged.Awaits p rest h
+outcome_given txns outcome.NoMessage rest most h = refl
+outcome_given txns outcome.GotWire rest most h = refl
+outcome_given txns outcome.GotReady rest most h = refl
+outcome_given txns outcome.GotDual rest most h = refl
+outcome_given txns (outcome.Stale p) rest most h = paged_given paged.Stale p rest h
+outcome_given txns (outcome.Held p) rest most h = paged_given paged.Held p rest h
+outcome_given txns (outcome.GotPull p) rest most h = paged_given paged.GotPull p rest h
+outcome_given txns (outcome.GotPage p) rest most h = paged_given paged.GotPage p rest h
+outcome_given txns outcome.GotFinish rest most h = refl
+outcome_given txns outcome.GotDone rest most h = refl
+outcome_given txns outcome.Stray rest most h = refl
+outcome_given txns outcome.Finishing rest most h = refl
+outcome_given txns (outcome.Active t) rest most h =
+    let few : t < 2 ^ 32 = omega (arith, most, h) in
+    ap (made pattern.Active) (given (txn txns) (decimal t ∷ rest) rest t (goes_on (decimal t) rest (decimal_digits t few)) (txn_given txns t rest most h))
+outcome_given txns (outcome.Pushed p) rest most h = paged_given paged.Pushed p rest h
+outcome_given txns outcome.NoPush rest most h = refl
+
+-- it does not begin with `?`
+known : (o : Outcome) (rest : List Word) → begin_with (codes "?") (outcome_words o ++ rest) ≡ false
+known outcome.Started rest = refl
+known outcome.BadMode rest = refl
+known (outcome.Began n) rest = refl
+known outcome.Idle rest = refl
+known outcome.Elsewhere rest = refl
+known outcome.NotYet rest = refl
+known outcome.Did rest = refl
+known (outcome.Split p q k) rest = refl
+known (outcome.Aborted w) rest = refl
+known (outcome.Committed n) rest = refl
+known (outcome.Waits n) rest = refl
+known (outcome.Pulls n) rest = refl
+known (outcome.Awaits n) rest = refl
+known outcome.NoMessage rest = refl
+known outcome.GotWire rest = refl
+known outcome.GotReady rest = refl
+known outcome.GotDual rest = refl
+known (outcome.Stale n) rest = refl
+known (outcome.Held n) rest = refl
+known (outcome.GotPull n) rest = refl
+known (outcome.GotPage n) rest = refl
+known outcome.GotFinish rest = refl
+known outcome.GotDone rest = refl
+known outcome.Stray rest = refl
+known outcome.Finishing rest = refl
+known (outcome.Active n) rest = refl
+known (outcome.Pushed n) rest = refl
+known outcome.NoPush rest = refl
+
+-- ---- a line
+
+-- a transaction that is named is below the count
+below : (t count : ℕ) → nat_lt t count ≡ true → t < count
+below t count h = grind (arith, tests)
+
+-- a choice is read as itself
+choice_given : (txns : Txns) (c : Choice) (rest : List Word) → txns.count ≤ 64 → names_below txns.count c ≡ true
+    → choice_of txns (choice_words c ++ rest) ≡ Ok (c, rest)
+choice_given txns Start rest most h = refl
+choice_given txns (Begin t) rest most h = ap (made Begin) (txn_given txns t rest most (below t txns.count h))
+choice_given txns (Kill t) rest most h = ap (made Kill) (txn_given txns t rest most (below t txns.count h))
+choice_given txns (Run A t) rest most h = ap (made (Run A)) (txn_given txns t rest most (below t txns.count h))
+choice_given txns (Run B t) rest most h = ap (made (Run B)) (txn_given txns t rest most (below t txns.count h))
+choice_given txns (Take A) rest most h = refl
+choice_given txns (Take B) rest most h = refl
+choice_given txns (Finish A) rest most h = refl
+choice_given txns (Finish B) rest most h = refl
+choice_given txns (Push A) rest most h = refl
+choice_given txns (Push B) rest most h = refl
+
+-- its second word is no `...`
+no_gap : (c : Choice) (rest : List Word) → begin_with (codes "...") (after (choice_words c ++ rest)) ≡ false
+no_gap Start rest = refl
+no_gap (Begin t) rest = refl
+no_gap (Kill t) rest = refl
+no_gap (Run n t) rest = refl
+no_gap (Take n) rest = refl
+no_gap (Finish n) rest = refl
+no_gap (Push n) rest = refl
+
+-- an outcome that the choice can give
+possible_given : (txns : Txns) (c : Choice) (o : Outcome) (rest : List Word) → txns.count ≤ 64 → IsTold txns.count o → can_give c (exactly o) ≡ true
+    → possible txns c (outcome_words o ++ rest) ≡ Ok (exactly o, rest)
+possible_given txns c o rest most h can =
+    let ws = outcome_words o ++ rest in
+    let tested : Read OutcomePattern → Read OutcomePattern = λ r. r >>= λ t. if can_give c t.0 then Ok t else refused (expected.OutcomeOf c) ws in
+    ap tested (outcome_given txns o rest most h) ∙ ap (λ b. if b then Ok (exactly o, rest) else refused (expected.OutcomeOf c) ws) can
+
+-- so it is told
+told_given : (txns : Txns) (c : Choice) (o : Outcome) (rest : List Word) → txns.count ≤ 64 → IsTold txns.count o → can_give c (exactly o) ≡ true
+    → told_of txns c (codes "->" ∷ (outcome_words o ++ rest)) ≡ Ok (Some (exactly o), rest)
+told_given txns c o rest most h can =
+    let ws = outcome_words o ++ rest in
+    ap (λ b. if b then Ok (None, after ws) else made Some (possible txns c ws)) (known o rest)
+    ∙ ap (made Some) (possible_given txns c o rest most h can)
+
+-- the message that was sent
+sent_given : (k : Option Kind) → sent_of (sent_words k) ≡ Ok (k, [])
+unfolding open_all
+sent_given None = refl
+sent_given (Some kind.Wire) = refl
+sent_given (Some kind.Ready) = refl
+sent_given (Some kind.Dual) = refl
+sent_given (Some kind.Pull) = refl
+sent_given (Some kind.Page) = refl
+sent_given (Some kind.Finish) = refl
+sent_given (Some kind.Done) = refl
+
+-- all of a step
+whole_given : (txns : Txns) (e : Entry) → txns.count ≤ 64 → names_below txns.count e.choice ≡ true → IsTold txns.count e.outcome
+    → can_give e.choice (exactly e.outcome) ≡ true → whole txns (step_words e) ≡ Ok (in_full e, [])
+whole_given txns e most named h can =
+    let third : Choice → Option OutcomePattern → Read (Option Kind) → Read LogLine = λ c t r. r >>= λ k.
+    if are_none k.1 then Ok (record { choice = c; told = t; sent = k.0 }, k.1) else refused expected.End k.1 in
+    let second : Choice → Read (Option OutcomePattern) → Read LogLine = λ c r. r >>= λ t. third c t.0 (sent_of t.1) in
+    let all : Read Choice → Read LogLine = λ r. r >>= λ c. second c.0 (told_of txns c.0 c.1) in
+    ap all (choice_given txns e.choice (codes "->" ∷ (outcome_words e.outcome ++ sent_words e.sent)) most named)
+    ∙ ap (second e.choice) (told_given txns e.choice e.outcome (sent_words e.sent) most h can)
+    ∙ ap (third e.choice (Some (exactly e.outcome))) (sent_given e.sent)
+
+-- the words of a step are a line of a log, which leaves nothing of it out
+pub step_given : (txns : Txns) (e : Entry) → txns.count ≤ 64 → names_below txns.count e.choice ≡ true → IsTold txns.count e.outcome
+    → can_give e.choice (exactly e.outcome) ≡ true → line_of txns (step_words e) ≡ Ok (Step (in_full e))
+step_given txns e most named h can =
+    let ws = step_words e in
+    ap (λ b. placed (length ws) (if b then line.gap ws else made Step (whole txns ws)))
+    (no_gap e.choice (codes "->" ∷ (outcome_words e.outcome ++ sent_words e.sent)))
+    ∙ ap (λ r. placed (length ws) (made Step r)) (whole_given txns e most named h can)

@@ -1,0 +1,107 @@
+-- The line of a log that leaves nothing of a step out, and the outcomes that one can tell so.
+use Rattle.std.specs.Prelude.{ℕ, ◌≤◌, ◌<◌, ◌++◌, List, [], ◌∷◌, codes, Option, Some, None}
+use Rattle.std.specs.Fmt.{decimal}
+use Rattle.zy_model.specs.declared.kind.Kind.{Kind}
+use Rattle.zy_model.specs.declared.kind.Kind.TheVariants as kind
+use Rattle.zy_table.specs.declared.entry.Entry.{Entry}
+use Rattle.zy_table.specs.declared.outcome.Why.{Why}
+use Rattle.zy_table.specs.declared.outcome.Why.TheVariants as why
+use Rattle.zy_table.specs.declared.outcome.Outcome.{Outcome}
+use Rattle.zy_table.specs.declared.outcome.Outcome.TheVariants as outcome
+use Rattle.zy_text.specs.Canon.{node_text, choice_words}
+use Rattle.zy_patterns.specs.Patterns.{exactly}
+use Rattle.zy_logs.specs.declared.log_line.LogLine.{LogLine}
+use Rattle.zy_logs.specs.Words.{Word}
+
+-- the choice, all of the outcome, and the message that was sent, if one was
+abbrev pub in_full : Entry → LogLine
+in_full e = record { choice = e.choice; told = Some (exactly e.outcome); sent = e.sent }
+
+-- a number that a page or a key may have in a line
+abbrev pub IsPage : ℕ → Type 0
+IsPage p = p ≤ 65535
+
+-- the same of a reason's page
+abbrev pub HasPage : Why → Type 0
+HasPage (why.Frozen p) = IsPage p
+HasPage (why.Gone p) = IsPage p
+HasPage w = Unit {0}
+
+-- the numbers of an outcome are ones that a line may have, of `count` transactions
+abbrev pub IsTold : ℕ → Outcome → Type 0
+IsTold count (outcome.Split p q k) = IsPage p × IsPage q × IsPage k
+IsTold count (outcome.Aborted w) = HasPage w
+IsTold count (outcome.Committed i) = i ≤ 64
+IsTold count (outcome.Waits p) = IsPage p
+IsTold count (outcome.Pulls p) = IsPage p
+IsTold count (outcome.Awaits p) = IsPage p
+IsTold count (outcome.Stale p) = IsPage p
+IsTold count (outcome.Held p) = IsPage p
+IsTold count (outcome.GotPull p) = IsPage p
+IsTold count (outcome.GotPage p) = IsPage p
+IsTold count (outcome.Active t) = t < count
+IsTold count (outcome.Pushed p) = IsPage p
+IsTold count o = Unit {0}
+
+-- ---- the words of such a line, in which a transaction has its number
+
+-- WHY
+abbrev pub reason_words : Why → List Word
+reason_words why.Own = codes "own" ∷ []
+reason_words why.Killed = codes "killed" ∷ []
+reason_words why.BadKey = codes "badkey" ∷ []
+reason_words why.Missing = codes "missing" ∷ []
+reason_words why.Duplicate = codes "duplicate" ∷ []
+reason_words why.NoPage = codes "nopage" ∷ []
+reason_words (why.Frozen p) = codes "frozen" ∷ decimal p ∷ []
+reason_words (why.Gone p) = codes "gone" ∷ decimal p ∷ []
+
+-- OUTCOME
+abbrev pub outcome_words : Outcome → List Word
+outcome_words outcome.Started = codes "started" ∷ []
+outcome_words outcome.BadMode = codes "badmode" ∷ []
+outcome_words (outcome.Began n) = codes "began" ∷ node_text n ∷ []
+outcome_words outcome.Idle = codes "idle" ∷ []
+outcome_words outcome.Elsewhere = codes "elsewhere" ∷ []
+outcome_words outcome.NotYet = codes "notyet" ∷ []
+outcome_words outcome.Did = codes "did" ∷ []
+outcome_words (outcome.Split p q k) = codes "split" ∷ decimal p ∷ decimal q ∷ decimal k ∷ []
+outcome_words (outcome.Aborted w) = codes "aborted" ∷ reason_words w
+outcome_words (outcome.Committed i) = codes "committed" ∷ decimal i ∷ []
+outcome_words (outcome.Waits p) = codes "waits" ∷ decimal p ∷ []
+outcome_words (outcome.Pulls p) = codes "pulls" ∷ decimal p ∷ []
+outcome_words (outcome.Awaits p) = codes "awaits" ∷ decimal p ∷ []
+outcome_words outcome.NoMessage = codes "nomessage" ∷ []
+outcome_words outcome.GotWire = codes "got" ∷ codes "wire" ∷ []
+outcome_words outcome.GotReady = codes "got" ∷ codes "ready" ∷ []
+outcome_words outcome.GotDual = codes "got" ∷ codes "dual" ∷ []
+outcome_words (outcome.Stale p) = codes "stale" ∷ decimal p ∷ []
+outcome_words (outcome.Held p) = codes "held" ∷ decimal p ∷ []
+outcome_words (outcome.GotPull p) = codes "got" ∷ codes "pull" ∷ decimal p ∷ []
+outcome_words (outcome.GotPage p) = codes "got" ∷ codes "page" ∷ decimal p ∷ []
+outcome_words outcome.GotFinish = codes "got" ∷ codes "finish" ∷ []
+outcome_words outcome.GotDone = codes "got" ∷ codes "done" ∷ []
+outcome_words outcome.Stray = codes "stray" ∷ []
+outcome_words outcome.Finishing = codes "finishing" ∷ []
+outcome_words (outcome.Active t) = codes "active" ∷ decimal t ∷ []
+outcome_words (outcome.Pushed p) = codes "pushed" ∷ decimal p ∷ []
+outcome_words outcome.NoPush = codes "nopush" ∷ []
+
+-- KIND
+abbrev pub kind_word : Kind → Word
+kind_word kind.Wire = codes "wire"
+kind_word kind.Ready = codes "ready"
+kind_word kind.Dual = codes "dual"
+kind_word kind.Pull = codes "pull"
+kind_word kind.Page = codes "page"
+kind_word kind.Finish = codes "finish"
+kind_word kind.Done = codes "done"
+
+-- [ ! KIND ]
+abbrev pub sent_words : Option Kind → List Word
+sent_words None = []
+sent_words (Some k) = codes "!" ∷ kind_word k ∷ []
+
+-- CHOICE -> OUTCOME [ ! KIND ]
+abbrev pub step_words : Entry → List Word
+step_words e = choice_words e.choice ++ (codes "->" ∷ (outcome_words e.outcome ++ sent_words e.sent))
