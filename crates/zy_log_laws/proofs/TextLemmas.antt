@@ -1,0 +1,233 @@
+-- The texts of a step are its words with a space between them, and these are words.
+use Rattle.std.proofs.Common.{◌≡◌, ◌∙◌, ℕ, ◌^◌, ◌<◌, ◌≤◌, true, ◌&&◌, List, [], ◌∷◌, ◌++◌, codes, Some, None, Option, refl, ap, sym, arith}
+use Rattle.std.proofs.Common.{append_assoc, append-nil}
+use Rattle.std.specs.Fmt.{decimal}
+use Rattle.std.proofs.lemmas.Bool.{false≢true}
+use Rattle.zy_isa.specs.Choices.{names_below}
+use Rattle.zy_isa.specs.declared.choice.Choice.{Choice}
+use Rattle.zy_isa.specs.declared.choice.Choice.TheVariants.{Start, Begin, Kill, Run, Take, Finish, Push}
+use Rattle.zy_isa.specs.declared.node.Node.TheVariants.{A, B}
+use Rattle.zy_isa.proofs.ResultLemmas.{both}
+use Rattle.zy_model.specs.declared.kind.Kind.{Kind}
+use Rattle.zy_model.specs.declared.kind.Kind.TheVariants as kind
+use Rattle.zy_table.specs.declared.entry.Entry.{Entry}
+use Rattle.zy_table.specs.declared.outcome.Why.{Why}
+use Rattle.zy_table.specs.declared.outcome.Why.TheVariants as why
+use Rattle.zy_table.specs.declared.outcome.Outcome.{Outcome}
+use Rattle.zy_table.specs.declared.outcome.Outcome.TheVariants as outcome
+use Rattle.zy_text.specs.Canon.{choice_words}
+use Rattle.zy_text.specs.Words.{is_word, has_words, spaced}
+use Rattle.zy_listing.specs.Texts.{why_text, kind_text, outcome_text, sent_text, step_text}
+use Rattle.zy_logs.specs.InFull.{IsPage, HasPage, IsTold, reason_words, outcome_words, kind_word, sent_words, step_words}
+use Rattle.zy_logs.proofs.WordLemmas.{is_clean, are_clean, number_clean, clean_choice}
+
+-- ---- words with a space between them
+
+-- a word in front of some words
+spaced_front : (w : List ℕ) (vs : List (List ℕ)) → has_words vs ≡ true → spaced (w ∷ vs) ≡ w ++ (32 ∷ spaced vs)
+spaced_front w [] h = absurd (false≢true h)
+spaced_front w (v ∷ vs) h = refl
+
+-- words in front of some words
+spaced_more : (ws vs : List (List ℕ)) → has_words ws ≡ true → has_words vs ≡ true → spaced (ws ++ vs) ≡ spaced ws ++ (32 ∷ spaced vs)
+spaced_more [] vs g h = absurd (false≢true g)
+spaced_more (w ∷ []) vs g h = spaced_front w vs h
+spaced_more (w ∷ u ∷ ws) vs g h = ap (λ l. w ++ (32 ∷ l)) (spaced_more (u ∷ ws) vs refl h) ∙ sym (append_assoc w (32 ∷ spaced (u ∷ ws)) (32 ∷ spaced vs))
+
+-- words behind words are some
+some_more : (ws vs : List (List ℕ)) → has_words ws ≡ true → has_words (ws ++ vs) ≡ true
+some_more [] vs h = absurd (false≢true h)
+some_more (w ∷ ws) vs h = refl
+
+-- ---- the texts
+
+reason_spaced : (w : Why) → codes "aborted " ++ why_text w ≡ spaced (codes "aborted" ∷ reason_words w)
+reason_spaced why.Own = refl
+reason_spaced why.Killed = refl
+reason_spaced why.BadKey = refl
+reason_spaced why.Missing = refl
+reason_spaced why.Duplicate = refl
+reason_spaced why.NoPage = refl
+reason_spaced (why.Frozen p) = refl
+reason_spaced (why.Gone p) = refl
+
+-- the text of an outcome
+pub outcome_spaced : (o : Outcome) → outcome_text o ≡ spaced (outcome_words o)
+outcome_spaced outcome.Started = refl
+outcome_spaced outcome.BadMode = refl
+outcome_spaced (outcome.Began n) = refl
+outcome_spaced outcome.Idle = refl
+outcome_spaced outcome.Elsewhere = refl
+outcome_spaced outcome.NotYet = refl
+outcome_spaced outcome.Did = refl
+outcome_spaced (outcome.Split p q k) = refl
+outcome_spaced (outcome.Aborted w) = reason_spaced w
+outcome_spaced (outcome.Committed n) = refl
+outcome_spaced (outcome.Waits n) = refl
+outcome_spaced (outcome.Pulls n) = refl
+outcome_spaced (outcome.Awaits n) = refl
+outcome_spaced outcome.NoMessage = refl
+outcome_spaced outcome.GotWire = refl
+outcome_spaced outcome.GotReady = refl
+outcome_spaced outcome.GotDual = refl
+outcome_spaced (outcome.Stale n) = refl
+outcome_spaced (outcome.Held n) = refl
+outcome_spaced (outcome.GotPull n) = refl
+outcome_spaced (outcome.GotPage n) = refl
+outcome_spaced outcome.GotFinish = refl
+outcome_spaced outcome.GotDone = refl
+outcome_spaced outcome.Stray = refl
+outcome_spaced outcome.Finishing = refl
+outcome_spaced (outcome.Active n) = refl
+outcome_spaced (outcome.Pushed n) = refl
+outcome_spaced outcome.NoPush = refl
+
+-- the word of a kind of message
+kind_same : (k : Kind) → kind_text k ≡ kind_word k
+kind_same kind.Wire = refl
+kind_same kind.Ready = refl
+kind_same kind.Dual = refl
+kind_same kind.Pull = refl
+kind_same kind.Page = refl
+kind_same kind.Finish = refl
+kind_same kind.Done = refl
+
+-- an outcome has words
+outcome_some : (o : Outcome) → has_words (outcome_words o) ≡ true
+outcome_some outcome.Started = refl
+outcome_some outcome.BadMode = refl
+outcome_some (outcome.Began n) = refl
+outcome_some outcome.Idle = refl
+outcome_some outcome.Elsewhere = refl
+outcome_some outcome.NotYet = refl
+outcome_some outcome.Did = refl
+outcome_some (outcome.Split p q k) = refl
+outcome_some (outcome.Aborted w) = refl
+outcome_some (outcome.Committed n) = refl
+outcome_some (outcome.Waits n) = refl
+outcome_some (outcome.Pulls n) = refl
+outcome_some (outcome.Awaits n) = refl
+outcome_some outcome.NoMessage = refl
+outcome_some outcome.GotWire = refl
+outcome_some outcome.GotReady = refl
+outcome_some outcome.GotDual = refl
+outcome_some (outcome.Stale n) = refl
+outcome_some (outcome.Held n) = refl
+outcome_some (outcome.GotPull n) = refl
+outcome_some (outcome.GotPage n) = refl
+outcome_some outcome.GotFinish = refl
+outcome_some outcome.GotDone = refl
+outcome_some outcome.Stray = refl
+outcome_some outcome.Finishing = refl
+outcome_some (outcome.Active n) = refl
+outcome_some (outcome.Pushed n) = refl
+outcome_some outcome.NoPush = refl
+
+-- so has a choice
+choice_some : (c : Choice) → has_words (choice_words c) ≡ true
+choice_some Start = refl
+choice_some (Begin t) = refl
+choice_some (Kill t) = refl
+choice_some (Run n t) = refl
+choice_some (Take n) = refl
+choice_some (Finish n) = refl
+choice_some (Push n) = refl
+
+-- an outcome and the message that was sent, if one was
+told_spaced : (o : Outcome) (sent : Option Kind) → outcome_text o ++ sent_text sent ≡ spaced (outcome_words o ++ sent_words sent)
+told_spaced o None = append-nil (outcome_text o) ∙ outcome_spaced o ∙ ap spaced (sym (append-nil (outcome_words o)))
+told_spaced o (Some kind) =
+    ap (λ l. l ++ (codes " ! " ++ kind_text kind)) (outcome_spaced o)
+    ∙ ap (λ l. spaced (outcome_words o) ++ (codes " ! " ++ l)) (kind_same kind)
+    ∙ sym (spaced_more (outcome_words o) (codes "!" ∷ kind_word kind ∷ []) (outcome_some o) refl)
+
+-- the text of a step
+pub step_spaced : (i : ℕ) (e : Entry) → step_text i e ≡ spaced (decimal i ∷ step_words e)
+step_spaced i e =
+    let told = outcome_words e.outcome ++ sent_words e.sent in
+    let arrow = sym (spaced_front (codes "->") told (some_more (outcome_words e.outcome) (sent_words e.sent) (outcome_some e.outcome))) in
+    let made = choice_words e.choice in
+    let Line : List ℕ → List ℕ = λ l. decimal i ++ (32 ∷ (spaced made ++ (32 ∷ l))) in
+    ap Line (ap (λ l. codes "-> " ++ l) (told_spaced e.outcome e.sent) ∙ arrow)
+    ∙ ap (λ l. decimal i ++ (32 ∷ l)) (sym (spaced_more made (codes "->" ∷ told) (choice_some e.choice) refl))
+    ∙ sym (spaced_front (decimal i) (made ++ (codes "->" ∷ told)) (some_more made (codes "->" ∷ told) (choice_some e.choice)))
+
+-- ---- the words
+
+-- clean words and more of them are clean
+clean_more : (ws vs : List (List ℕ)) → are_clean ws ≡ true → are_clean vs ≡ true → are_clean (ws ++ vs) ≡ true
+clean_more [] vs h g = g
+clean_more (w ∷ ws) vs h g =
+    let p = both (is_word w && is_clean w) (are_clean ws) h in
+    rw (p.0, clean_more ws vs p.1 g) refl
+
+-- a number alone
+one_clean : (n : ℕ) → n < 2 ^ 32 → are_clean (decimal n ∷ []) ≡ true
+one_clean n h = let p = number_clean n h in rw (p.0, p.1) refl
+
+-- a page alone
+page_clean : (p : ℕ) → IsPage p → are_clean (decimal p ∷ []) ≡ true
+page_clean p h = one_clean p (omega (arith, h))
+
+-- the words of a reason
+reason_clean : (w : Why) → HasPage w → are_clean (reason_words w) ≡ true
+reason_clean (why.Frozen p) h = page_clean p h
+reason_clean (why.Gone p) h = page_clean p h
+reason_clean why.Own h = refl
+reason_clean why.Killed h = refl
+reason_clean why.BadKey h = refl
+reason_clean why.Missing h = refl
+reason_clean why.Duplicate h = refl
+reason_clean why.NoPage h = refl
+
+-- the words of an outcome
+pub outcome_clean : (count : ℕ) (o : Outcome) → count ≤ 64 → IsTold count o → are_clean (outcome_words o) ≡ true
+outcome_clean count (outcome.Began A) most h = refl
+outcome_clean count (outcome.Began B) most h = refl
+outcome_clean count (outcome.Split p q k) most h = clean_more (decimal p ∷ []) (decimal q ∷ decimal k ∷ []) (page_clean p h.0)
+    (clean_more (decimal q ∷ []) (decimal k ∷ []) (page_clean q h.1) (page_clean k h.2))
+outcome_clean count (outcome.Aborted w) most h = reason_clean w h
+outcome_clean count (outcome.Committed i) most h = one_clean i (omega (arith, h))
+outcome_clean count (outcome.Active t) most h = one_clean t (omega (arith, most, h))
+outcome_clean count outcome.Started most h = refl
+outcome_clean count outcome.BadMode most h = refl
+outcome_clean count outcome.Idle most h = refl
+outcome_clean count outcome.Elsewhere most h = refl
+outcome_clean count outcome.NotYet most h = refl
+outcome_clean count outcome.Did most h = refl
+outcome_clean count (outcome.Waits n) most h = page_clean n h
+outcome_clean count (outcome.Pulls n) most h = page_clean n h
+outcome_clean count (outcome.Awaits n) most h = page_clean n h
+outcome_clean count outcome.NoMessage most h = refl
+outcome_clean count outcome.GotWire most h = refl
+outcome_clean count outcome.GotReady most h = refl
+outcome_clean count outcome.GotDual most h = refl
+outcome_clean count (outcome.Stale n) most h = page_clean n h
+outcome_clean count (outcome.Held n) most h = page_clean n h
+outcome_clean count (outcome.GotPull n) most h = page_clean n h
+outcome_clean count (outcome.GotPage n) most h = page_clean n h
+outcome_clean count outcome.GotFinish most h = refl
+outcome_clean count outcome.GotDone most h = refl
+outcome_clean count outcome.Stray most h = refl
+outcome_clean count outcome.Finishing most h = refl
+outcome_clean count (outcome.Pushed n) most h = page_clean n h
+outcome_clean count outcome.NoPush most h = refl
+
+-- the words of a message
+sent_clean : (k : Option Kind) → are_clean (sent_words k) ≡ true
+sent_clean None = refl
+sent_clean (Some kind.Wire) = refl
+sent_clean (Some kind.Ready) = refl
+sent_clean (Some kind.Dual) = refl
+sent_clean (Some kind.Pull) = refl
+sent_clean (Some kind.Page) = refl
+sent_clean (Some kind.Finish) = refl
+sent_clean (Some kind.Done) = refl
+
+-- the words of a step
+pub step_clean : (count i : ℕ) (e : Entry) → count ≤ 64 → i < 2 ^ 32 → names_below count e.choice ≡ true → IsTold count e.outcome
+    → are_clean (decimal i ∷ step_words e) ≡ true
+step_clean count i e most few named h =
+    clean_more (decimal i ∷ []) (step_words e) (one_clean i few)
+    (clean_more (choice_words e.choice) (codes "->" ∷ (outcome_words e.outcome ++ sent_words e.sent)) (clean_choice e.choice count most named).0
+    (clean_more (outcome_words e.outcome) (sent_words e.sent) (outcome_clean count e.outcome most h) (sent_clean e.sent)))
