@@ -256,18 +256,17 @@ impl Calls for Testing {
     }
 }
 
-/// `zy_check::check::compare` of a listing with its scenario, which is made again for each call.
+/// `zy_check::check::compare` of a listing with its machine.
 #[derive(Drop)]
-struct Comparison<'a> {
+struct Comparison {
     alloc: Global,
-    input: &'a [u8],
+    machine: Machine,
     listing: VecSink,
 }
 
-impl Calls for Comparison<'_> {
+impl Calls for Comparison {
     fn call(&mut self, _place: usize) -> Result<u64, Refused> {
-        let scenario = scenario(self.alloc, self.input)?;
-        let verdict = tested(compare(self.alloc, self.listing.bytes(), scenario))?;
+        let verdict = tested(compare(self.alloc, self.listing.bytes(), &self.machine))?;
         Ok(digest_of(&verdict))
     }
 }
@@ -310,11 +309,17 @@ fn sweep_serial(alloc: Global, input: &[u8]) -> Result<Findings, Refused> {
 
 fn sweep_compare(alloc: Global, input: &[u8]) -> Result<Findings, Refused> {
     let listing = listing(alloc, input)?;
-    Ok(sweep(Comparison {
-        alloc,
-        input,
-        listing,
-    }))
+    match machine(alloc, input) {
+        Ok(machine) => Ok(sweep(Comparison {
+            alloc,
+            machine,
+            listing,
+        })),
+        Err(refused) => {
+            drop(listing);
+            Err(refused)
+        }
+    }
 }
 
 /// The sweep of this name, over a scenario's text, if it is one of these.

@@ -4,7 +4,7 @@ ghost use Rattle.std.specs.Prelude.{◌<◌};
 use crate::calls::{Answers, Findings, Refused, again, answered, ended, prepared, tested};
 use crate::digest::{Digest, Digested};
 use crate::gates::{ACTORS, Noting, SlowB};
-use crate::machines::choices;
+use crate::machines::{choices, machine};
 use crate::scenarios::scenario;
 use crate::texts::{Prefix, room};
 use std::alloc::Global;
@@ -51,8 +51,10 @@ fn repeat(alloc: Global, listing: &[u8]) -> Result<(), Refused> {
 
 /// Whether a listing passes `check`, where its scenario is that of a text.
 fn check(alloc: Global, text: &[u8], listing: &[u8]) -> Result<(), Refused> {
-    let scenario = scenario(alloc, text)?;
-    match prepared(compare(alloc, listing, scenario)) {
+    let machine = machine(alloc, text)?;
+    let verdict = prepared(compare(alloc, listing, &machine));
+    machine.discard();
+    match verdict {
         Ok(Verdict::Table) => Ok(()),
         Ok(Verdict::NotTable(_)) => Err(Refused::Different),
         Err(refused) => Err(refused),

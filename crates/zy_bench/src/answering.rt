@@ -1,29 +1,30 @@
 //! The commands `search` and `find`: a goal is read, and answered.
-ghost use Rattle.std.specs.Prelude.{◌<◌};
+ghost use Rattle.std.specs.Prelude.{◌≡◌, ◌<◌};
+ghost use Rattle.zy_engine.specs.Searching.{history_of};
 
 use crate::output::{Output, pass};
-use std::alloc::Global;
+use std::alloc::{AllocError, Global};
 use std::fmt;
 use std::io::{Read, Write};
 use std::thread::Threads;
 use std::time::Clock;
+use zy_asm::names::names_of;
 use zy_cli::exit_status::{COMMAND_LINE, DONE, NOWHERE, SPENT};
 use zy_cli::request::SearchRequest;
 use zy_engine::finding::find_input;
-use zy_engine::searching::search_input;
-use zy_engine::{BenchFault, Format, Question, SearchOptions};
+use zy_engine::searching::{run_taken, search_input};
+use zy_engine::{AcceptedInput, BenchFault, Format, Question, SearchOptions};
 use zy_goals::commits::takes_steps;
 use zy_goals::named::{Named, named_by};
 use zy_io::CountingReader;
 use zy_io::reading::read_all;
-use zy_isa::Choice;
-use zy_order_engine::names::names_of;
+use zy_isa::{Choice, Scenario};
+use zy_machine::Machine;
 use zy_queries::reading::{read_always, read_goal};
 use zy_queries::{GoalFault, Names};
-use zy_report::explained::{explain, found_again};
+use zy_report::explained::{explain, went_from};
 use zy_report::progress::Progress;
 use zy_report::refused_goal::RefusedGoal;
-use zy_report::rerun::extent_of;
 use zy_report::summary::{Count, Summary};
 use zy_report::way_out::tell_way_out;
 use zy_search::{SearchAnswer, SearchReport, Sought};
@@ -92,31 +93,43 @@ pub fn answer<R: Eprint + AllocGlobal + Clock + Threads + Sync, G: Read, W: Writ
     answer_read(rt, kind, request, input.as_slice(), output)
 }
 
-/// Answers what is asked of a scenario that was read, and gives the exit status.
+/// Answers what is asked of an input that was read, and gives the exit status.
 fn answer_read<R: Eprint + AllocGlobal + Clock + Threads + Sync, W: Write>(
     rt: &R,
     kind: AnswerKind,
     request: SearchRequest<'_>,
-    scenario: &[u8],
+    bytes: &[u8],
     output: &mut Output<W>,
 ) -> Result<u8, BenchFault>
     requires { output.old.sink.1 < u64.MAX }
 {
-    match sought_in(rt.alloc(), request, scenario)? {
+    let input = AcceptedInput::of(rt.alloc(), request.format, bytes)?;
+    let status = answer_accepted(rt, kind, request, &input, output);
+    drop(input);
+    status
+}
+
+/// Answers what is asked of a scenario, and gives the exit status.
+fn answer_accepted<R: Eprint + AllocGlobal + Clock + Threads + Sync, W: Write>(
+    rt: &R,
+    kind: AnswerKind,
+    request: SearchRequest<'_>,
+    input: &AcceptedInput<'_>,
+    output: &mut Output<W>,
+) -> Result<u8, BenchFault>
+    requires { output.old.sink.1 < u64.MAX }
+{
+    match sought_in(rt.alloc(), request, input)? {
         Ok(sought) => {
-            let sought = warned(rt, request.options.format, scenario, sought)?;
+            warn(rt, &input.scenario, named_by(&sought.goal, sought.then));
             match kind {
                 AnswerKind::Schedule { is_terminal } => {
-                    search(rt, request, sought, scenario, output, is_terminal)
+                    search(rt, request, sought, input, output, is_terminal)
                 }
-                AnswerKind::Positions => find(rt, request.options.format, sought, scenario, output),
+                AnswerKind::Positions => find(rt, sought, input, output),
             }
         }
-        Err(fault) => {
-            // A scenario that is rejected has no names.
-            extent_of(rt.alloc(), request.options.format, scenario)?;
-            no_goal(rt, request, fault)
-        }
+        Err(fault) => no_goal(rt, request, fault),
     }
 }
 
@@ -124,36 +137,29 @@ fn answer_read<R: Eprint + AllocGlobal + Clock + Threads + Sync, W: Write>(
 fn sought_in(
     alloc: Global,
     request: SearchRequest<'_>,
-    scenario: &[u8],
-) -> Result<Result<Sought, GoalFault>, BenchFault> {
-    let names = names_in(alloc, request.options.format, scenario)?;
+    input: &AcceptedInput<'_>,
+) -> Result<Result<Sought, GoalFault>, AllocError> {
+    let names = names_in(alloc, input)?;
     let sought = sought_of(alloc, request, Names::Known(&names));
     drop(names);
     Ok(sought)
 }
 
 /// The names of the transactions of a scenario; an image has none.
-fn names_in(alloc: Global, format: Format, scenario: &[u8]) -> Result<Vec<&[u8]>, BenchFault> {
-    match format {
-        Format::Text => Ok(names_of(alloc, scenario)?),
+fn names_in<'a>(alloc: Global, input: &AcceptedInput<'a>) -> Result<Vec<&'a [u8]>, AllocError> {
+    match input.format {
+        Format::Text => names_of(alloc, input.bytes),
         Format::Image => Ok(Vec::new(alloc)),
     }
 }
 
 /// How many choices a scenario has, where there are fewer than those that a search is to take as steps already taken.
-fn lacking(
-    alloc: Global,
-    options: SearchOptions,
-    scenario: &[u8],
-) -> Result<Option<Count>, BenchFault> {
-    let Some(from) = options.from else {
-        return Ok(None);
-    };
-    let count = extent_of(alloc, options.format, scenario)?.choices;
-    if count < from {
-        return Ok(Some(Count::of(count, "choice")));
+fn lacking(options: SearchOptions, scenario: &Scenario) -> Option<Count> {
+    let count = scenario.choices().len();
+    if count < options.from? {
+        return Some(Count::of(count, "choice"));
     }
-    Ok(None)
+    None
 }
 
 /// Searches the schedules of a scenario, if it has the steps that are to be taken, and gives the exit status.
@@ -161,19 +167,27 @@ fn search<R: Eprint + AllocGlobal + Clock + Threads + Sync, W: Write>(
     rt: &R,
     request: SearchRequest<'_>,
     sought: Sought,
-    scenario: &[u8],
+    input: &AcceptedInput<'_>,
     output: &mut Output<W>,
     is_terminal: bool,
 ) -> Result<u8, BenchFault>
     requires { output.old.sink.1 < u64.MAX }
 {
-    let outcome = match lacking(rt.alloc(), request.options, scenario) {
-        Ok(None) => return search_all(rt, request, sought, scenario, output, is_terminal),
-        Ok(Some(count)) => Ok(tell_lacking(rt, count)),
-        Err(fault) => Err(fault),
-    };
-    drop(sought);
-    outcome
+    if let Some(count) = lacking(request.options, &input.scenario) {
+        drop(sought);
+        return Ok(tell_lacking(rt, count));
+    }
+    match run_taken(rt.alloc(), input, request.options.from) {
+        Ok(machine) => {
+            let status = search_from(rt, request, sought, input, &machine, output, is_terminal);
+            machine.discard();
+            status
+        }
+        Err(fault) => {
+            drop(sought);
+            Err(BenchFault::from(fault))
+        }
+    }
 }
 
 /// Reports on standard error that a scenario has no more choices than these, and gives the exit status.
@@ -182,40 +196,49 @@ fn tell_lacking(rt: &impl Eprint, count: Count) -> u8 {
     COMMAND_LINE
 }
 
-/// Searches the schedules of a scenario, and gives the exit status. It says how far it is where standard
-/// error is a terminal.
-fn search_all<R: Eprint + AllocGlobal + Clock + Threads + Sync, W: Write>(
+/// Searches the schedules behind the steps that a machine has taken, and gives the exit status. It says how far it is where
+/// standard error is a terminal.
+fn search_from<R: Eprint + AllocGlobal + Clock + Threads + Sync, W: Write>(
     rt: &R,
     request: SearchRequest<'_>,
     sought: Sought,
-    scenario: &[u8],
+    input: &AcceptedInput<'_>,
+    machine: &Machine,
     output: &mut Output<W>,
     is_terminal: bool,
 ) -> Result<u8, BenchFault>
-    requires { output.old.sink.1 < u64.MAX }
+    requires taken { machine.now ≡ history_of request.options.from input.now.scenario }
+    requires calls { output.old.sink.1 < u64.MAX }
 {
     let mut progress = Progress::new(rt, is_terminal);
     let is_of_waits = takes_steps(&sought.goal);
     let question = Question {
-        input: scenario,
         options: request.options,
         sought,
     };
-    let searched = search_input(rt, rt.alloc(), question, output, &mut progress);
+    let searched = search_input(
+        rt,
+        rt.alloc(),
+        input,
+        question,
+        machine,
+        output,
+        &mut progress,
+    );
     progress.clear();
     let report = searched?;
-    let told = tell_answer(rt, request, is_of_waits, scenario, &report, output);
+    let told = tell_answer(rt, request, is_of_waits, machine, &report, output);
     drop(report);
     told
 }
 
-/// Ends the output of a search, reports on standard error what came of it, and gives the exit status. `is_of_waits` says that
-/// its goal has `stuck` or `deadlock`.
+/// Ends the output of a search from a machine, reports on standard error what came of it, and gives the exit status.
+/// `is_of_waits` says that its goal has `stuck` or `deadlock`.
 fn tell_answer<R: Eprint + AllocGlobal, W: Write>(
     rt: &R,
     request: SearchRequest<'_>,
     is_of_waits: bool,
-    scenario: &[u8],
+    machine: &Machine,
     report: &SearchReport,
     output: &mut Output<W>,
 ) -> Result<u8, BenchFault>
@@ -225,7 +248,7 @@ fn tell_answer<R: Eprint + AllocGlobal, W: Write>(
     sum_up(rt, report, request);
     Ok(match &report.answer {
         SearchAnswer::Found(path) => {
-            comment_found(rt, request.options, is_of_waits, scenario, path);
+            comment_found(rt, is_of_waits, machine, path);
             DONE
         }
         SearchAnswer::Nowhere => NOWHERE,
@@ -233,16 +256,16 @@ fn tell_answer<R: Eprint + AllocGlobal, W: Write>(
     })
 }
 
-/// Makes the choices that a search has found, and says on standard error which order explains the rows where that of the
-/// commits does not, and of a goal with `stuck` or `deadlock` how the migration ends from there. Out of memory it says nothing.
+/// Makes the choices that a search has found from a machine, and says on standard error which order explains the rows where that
+/// of the commits does not, and of a goal with `stuck` or `deadlock` how the migration ends from there. Out of memory it says
+/// nothing.
 fn comment_found<R: Eprint + AllocGlobal>(
     rt: &R,
-    options: SearchOptions,
     is_of_waits: bool,
-    scenario: &[u8],
+    machine: &Machine,
     found: &[Choice],
 ) {
-    if let Ok(machine) = found_again(rt.alloc(), options, scenario, found) {
+    if let Ok(machine) = went_from(rt.alloc(), machine, found) {
         explain(rt, &machine);
         if is_of_waits {
             tell_way_out(rt, &machine);
@@ -252,52 +275,25 @@ fn comment_found<R: Eprint + AllocGlobal>(
 }
 
 /// Writes the positions of a scenario's run at which its state shows what is looked for, and gives the exit status.
-fn find<R: Eprint + AllocGlobal, W: Write>(
+fn find<R: AllocGlobal, W: Write>(
     rt: &R,
-    format: Format,
     sought: Sought,
-    scenario: &[u8],
+    input: &AcceptedInput<'_>,
     output: &mut Output<W>,
 ) -> Result<u8, BenchFault>
     requires { output.old.sink.1 < u64.MAX }
 {
-    let found = find_input(rt.alloc(), format, &sought, scenario, output);
+    let found = find_input(rt.alloc(), input, &sought, output);
     drop(sought);
     let count = found?;
     pass(output)?;
     Ok(if count == 0 { NOWHERE } else { DONE })
 }
 
-/// What is looked for, with a warning where its goal names a transaction or a page that the scenario does not have.
-fn warned<R: Eprint + AllocGlobal>(
-    rt: &R,
-    format: Format,
-    scenario: &[u8],
-    sought: Sought,
-) -> Result<Sought, BenchFault> {
-    match warn(rt, format, scenario, named_by(&sought.goal, sought.then)) {
-        Ok(()) => Ok(sought),
-        Err(fault) => {
-            drop(sought);
-            Err(fault)
-        }
-    }
-}
-
-/// Warns on standard error where a goal names a transaction or a page that the scenario does not have.
-fn warn<R: Eprint + AllocGlobal>(
-    rt: &R,
-    format: Format,
-    scenario: &[u8],
-    named: Named,
-) -> Result<(), BenchFault> {
-    if named.is_nothing() {
-        return Ok(());
-    }
-    let extent = extent_of(rt.alloc(), format, scenario)?;
-    warn_of(rt, "transaction", named.txns, extent.txns);
-    warn_of(rt, "page", named.pages, extent.pages);
-    Ok(())
+/// Warns on standard error where a goal names a transaction or a page that a scenario does not have.
+fn warn(rt: &impl Eprint, scenario: &Scenario, named: Named) {
+    warn_of(rt, "transaction", named.txns, scenario.programs().len());
+    warn_of(rt, "page", named.pages, usize::from(scenario.pages()));
 }
 
 /// Warns of one of these, of which there are `count`, where it takes `named` of them for the goal to name no others.

@@ -7,12 +7,12 @@ use zy_check::Verdict;
 use zy_cli::exit_status::{DONE, NOT_TABLE};
 use zy_diagnostics::line::whole_line;
 use zy_engine::checking::check_bytes;
-use zy_engine::{BenchFault, Format};
+use zy_engine::{BenchFault, CheckedListing};
 use zy_io::CountingReader;
 use zy_report::excerpt::Differing;
-use zy_report::explained::explain_again;
+use zy_report::explained::explain;
+use zy_report::listing::line_due;
 use zy_report::origin::Origin;
-use zy_report::rerun::{line_due, scenario_part};
 use zy_text::cut::cut_len;
 
 /// How a listing ends whose rows are not those of the commit order.
@@ -29,18 +29,32 @@ pub fn check<R: Eprint + AllocGlobal, G: Read, W: Write>(
     requires { output.old.sink.1 < u64.MAX }
 {
     let mut source = CountingReader::new(given);
-    let verdict = check_bytes(rt.alloc(), &mut source, output, input)?;
-    let listing = input.as_slice();
-    match verdict {
+    let checked = check_bytes(rt.alloc(), &mut source, output, input)?;
+    let status = tell_checked(rt, file, input.as_slice(), &checked, output);
+    drop(checked);
+    status
+}
+
+/// Ends a check of an input, says what there is to say of it, and gives the exit status.
+fn tell_checked<R: Eprint + AllocGlobal, W: Write>(
+    rt: &R,
+    file: Option<&str>,
+    listing: &[u8],
+    checked: &CheckedListing,
+    output: &mut Output<W>,
+) -> Result<u8, BenchFault>
+    requires { output.old.sink.1 < u64.MAX }
+{
+    match checked.verdict {
         Verdict::Table => {
             pass(output)?;
             if listing.ends_with(DIFFERING_END) {
-                explain_again(rt, Format::Text, scenario_part(listing));
+                explain(rt, &checked.machine);
             }
             Ok(DONE)
         }
         Verdict::NotTable(line) => {
-            let due = line_due(rt.alloc(), listing, line)?;
+            let due = line_due(rt.alloc(), &checked.machine, line)?;
             let status = close_differing(rt, file, listing, line, due.line(), output);
             drop(due);
             status

@@ -1,5 +1,6 @@
 //! The furthest order of logs, which is kept in a file.
-ghost use Rattle.std.specs.Prelude.{◌<◌};
+ghost use Rattle.std.specs.Prelude.{◌≡◌, ◌<◌, None};
+ghost use Rattle.zy_engine.specs.Searching.{history_of};
 
 use crate::output::{Output, output_to, pass};
 use std::alloc::Global;
@@ -8,7 +9,9 @@ use std::io::Write;
 use std::rt::Files;
 use zy_engine::{BenchFault, Wording};
 use zy_isa::Choice;
+use zy_machine::Machine;
 use zy_order::OrderAnswer;
+use zy_order_engine::OrderedLogs;
 use zy_order_engine::behind::write_behind;
 use zy_report::origin::Origin;
 
@@ -29,18 +32,20 @@ fn furthest_of(answer: &OrderAnswer) -> Option<&[Choice]> {
 }
 
 impl Keeper<'_> {
-    /// Writes the scenario of an input with the choices of the furthest order behind its own, where there is no order of all
-    /// lines. Why that is not written it says on standard error, and gives the exit status.
+    /// Writes the scenario of logs, whose own text is at hand, with the choices of the furthest order behind its own, where there
+    /// is no order of all lines. Why that is not written it says on standard error, and gives the exit status.
     pub fn keep<R: Eprint + Files + AllocGlobal>(
         self,
         rt: &R,
-        input: &[u8],
-        answer: &OrderAnswer,
-    ) -> Result<(), u8> {
-        let Some(order) = furthest_of(answer) else {
+        text: &[u8],
+        ordered: &OrderedLogs,
+    ) -> Result<(), u8>
+        requires { ordered.now.machine ≡ history_of None ordered.now.machine.scenario }
+    {
+        let Some(order) = furthest_of(&ordered.report.answer) else {
             return Ok(());
         };
-        match self.write(rt, input, order) {
+        match self.write(rt, text, &ordered.machine, order) {
             Ok(()) => Ok(()),
             Err(fault) => {
                 let origin = Origin::of(Some(self.path));
@@ -50,15 +55,18 @@ impl Keeper<'_> {
         }
     }
 
-    /// Writes the scenario of an input with these choices behind its own.
+    /// Writes the scenario of a machine, which has made all its choices, with these choices behind its own.
     fn write<R: Files + AllocGlobal>(
         self,
         rt: &R,
-        input: &[u8],
+        text: &[u8],
+        machine: &Machine,
         order: &[Choice],
-    ) -> Result<(), BenchFault> {
+    ) -> Result<(), BenchFault>
+        requires { machine.now ≡ history_of None machine.now.scenario }
+    {
         match fs::create(rt, self.path) {
-            Ok(file) => self.write_to(rt.alloc(), file, input, order),
+            Ok(file) => self.write_to(rt.alloc(), file, text, machine, order),
             Err(_) => Err(BenchFault::Write),
         }
     }
@@ -68,11 +76,14 @@ impl Keeper<'_> {
         self,
         alloc: Global,
         file: F,
-        input: &[u8],
+        text: &[u8],
+        machine: &Machine,
         order: &[Choice],
-    ) -> Result<(), BenchFault> {
+    ) -> Result<(), BenchFault>
+        requires { machine.now ≡ history_of None machine.now.scenario }
+    {
         let mut output = output_to(alloc, file)?;
-        let written = self.write_through(alloc, input, order, &mut output);
+        let written = self.write_through(alloc, text, machine, order, &mut output);
         drop(output);
         written
     }
@@ -81,13 +92,15 @@ impl Keeper<'_> {
     fn write_through<W: Write>(
         self,
         alloc: Global,
-        input: &[u8],
+        text: &[u8],
+        machine: &Machine,
         order: &[Choice],
         output: &mut Output<W>,
     ) -> Result<(), BenchFault>
-        requires { output.old.sink.1 < u64.MAX }
+        requires ran { machine.now ≡ history_of None machine.now.scenario }
+        requires calls { output.old.sink.1 < u64.MAX }
     {
-        write_behind(alloc, self.wording, input, order, output)?;
+        write_behind(alloc, self.wording, text, machine, order, output)?;
         pass(output)
     }
 }

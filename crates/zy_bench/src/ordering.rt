@@ -1,5 +1,6 @@
 //! The command `order`: logs are read, and an order of them is looked for.
-ghost use Rattle.std.specs.Prelude.{◌<◌};
+ghost use Rattle.std.specs.Prelude.{◌≡◌, ◌<◌, None};
+ghost use Rattle.zy_engine.specs.Searching.{history_of};
 
 use crate::keeping::Keeper;
 use crate::output::{Output, pass};
@@ -10,11 +11,12 @@ use std::time::Clock;
 use zy_cli::exit_status::{DONE, NOWHERE, SPENT};
 use zy_cli::request::OrderRequest;
 use zy_engine::BenchFault;
+use zy_engine::format::split_scenario;
 use zy_io::CountingReader;
 use zy_logs::LogLineFault;
 use zy_order::{OrderAnswer, OrderReport};
 use zy_order_engine::ordering::order_bytes;
-use zy_order_engine::{LogFormat, OrderFault};
+use zy_order_engine::{LogFormat, OrderFault, OrderedLogs};
 use zy_report::furthest::{Furthest, Steps};
 use zy_report::progress::Progress;
 use zy_report::refused_line::RefusedLine;
@@ -55,9 +57,9 @@ pub fn order<R: Eprint + Files + AllocGlobal + Clock, G: Read, W: Write>(
     );
     progress.clear();
     match ordered {
-        Ok(report) => {
-            let told = tell_report(rt, request, file, input.as_slice(), &report, output);
-            drop(report);
+        Ok(ordered) => {
+            let told = tell_ordered(rt, request, file, input.as_slice(), &ordered, output);
+            drop(ordered);
             told
         }
         Err(fault) => refuse(rt, request.options.logs, file, input.as_slice(), fault),
@@ -65,19 +67,20 @@ pub fn order<R: Eprint + Files + AllocGlobal + Clock, G: Read, W: Write>(
 }
 
 /// Ends the output of a search for an order, reports what came of it, and gives the exit status.
-fn tell_report<R: Eprint + Files + AllocGlobal, W: Write>(
+fn tell_ordered<R: Eprint + Files + AllocGlobal, W: Write>(
     rt: &R,
     request: OrderRequest<'_>,
     file: Option<&str>,
     input: &[u8],
-    report: &OrderReport,
+    ordered: &OrderedLogs,
     output: &mut Output<W>,
 ) -> Result<u8, BenchFault>
-    requires { output.old.sink.1 < u64.MAX }
+    requires ran { ordered.now.machine ≡ history_of None ordered.now.machine.scenario }
+    requires calls { output.old.sink.1 < u64.MAX }
 {
     pass(output)?;
-    let status = sum_up(rt, request, file, input, report)?;
-    Ok(kept(rt, request, input, &report.answer).unwrap_or(status))
+    let status = sum_up(rt, request, file, input, ordered)?;
+    Ok(kept(rt, request, input, ordered).unwrap_or(status))
 }
 
 /// Says on standard error why a line of an input is none of a log, and gives the exit status; another fault is given back.
@@ -125,13 +128,16 @@ fn kept<R: Eprint + Files + AllocGlobal>(
     rt: &R,
     request: OrderRequest<'_>,
     input: &[u8],
-    answer: &OrderAnswer,
-) -> Option<u8> {
+    ordered: &OrderedLogs,
+) -> Option<u8>
+    requires { ordered.now.machine ≡ history_of None ordered.now.machine.scenario }
+{
     let keeper = Keeper {
         path: request.furthest?,
         wording: request.options.wording,
     };
-    keeper.keep(rt, input, answer).err()
+    let (text, _) = split_scenario(input);
+    keeper.keep(rt, text, ordered).err()
 }
 
 /// Reports on standard error what came of a search for an order, and gives the exit status.
@@ -140,14 +146,15 @@ fn sum_up<R: Eprint + AllocGlobal>(
     request: OrderRequest<'_>,
     file: Option<&str>,
     input: &[u8],
-    report: &OrderReport,
+    ordered: &OrderedLogs,
 ) -> Result<u8, BenchFault> {
+    let report = &ordered.report;
     let (order, words, status) = match &report.answer {
         OrderAnswer::Found(order) => return Ok(found(rt, report, order.len())),
         OrderAnswer::Nowhere(order) => (order, NO_ORDER, NOWHERE),
         OrderAnswer::Spent(order) => (order, GAVE_UP, SPENT),
     };
-    let furthest = Furthest::of(rt.alloc(), request.options, input, order, report.taken)?;
+    let furthest = Furthest::of(rt.alloc(), request.options.logs, ordered, order)?;
     tell_furthest(rt, words, report, &furthest);
     furthest.tell(rt, file, input);
     furthest.discard();
@@ -182,7 +189,7 @@ const GAVE_UP: NotFound = NotFound {
 };
 
 /// Reports that no order was found, and how far the furthest comes.
-fn tell_furthest(rt: &impl Eprint, words: NotFound, report: &OrderReport, to: &Furthest) {
+fn tell_furthest(rt: &impl Eprint, words: NotFound, report: &OrderReport, to: &Furthest<'_>) {
     let NotFound { end, furthest } = words;
     let states = Count::of(report.states, "state");
     let reach = to.reach();

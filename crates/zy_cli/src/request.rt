@@ -40,6 +40,8 @@ pub enum Task<'a> {
 /// What a search is to go by. To find positions takes the format and the goal alone.
 #[derive(Clone, Copy)]
 pub struct SearchRequest<'a> {
+    /// What the scenario is written in.
+    pub format: Format,
     pub options: SearchOptions,
     /// The goal, as it was given.
     pub text: &'a str,
@@ -133,6 +135,7 @@ fn run_shown<'a>(words: &ArgMatches<'_>, shown: Shown) -> Task<'a> {
 fn quest_of<'a>(words: &ArgMatches<'a>) -> SearchRequest<'a> {
     let always = words.get_str("always");
     SearchRequest {
+        format: format_of(words),
         options: options_of(words),
         text: always.or(words.get_str("for")).unwrap_or("differs"),
         is_always: always.is_some(),
@@ -144,7 +147,6 @@ fn quest_of<'a>(words: &ArgMatches<'a>) -> SearchRequest<'a> {
 /// million states, and one thread.
 fn options_of(words: &ArgMatches<'_>) -> SearchOptions {
     SearchOptions {
-        format: format_of(words),
         wording: wording_of(words),
         from: words.get_one("from").map(|count: u16| usize::from(count)),
         most: most_of(words),

@@ -1,4 +1,5 @@
 mod MergeLemmas
 mod AgainLemmas
-mod SearchLemmas
+pub mod SearchLemmas
+mod CheckLemmas
 pub mod EndingLemmas

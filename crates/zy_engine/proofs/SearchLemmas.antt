@@ -20,10 +20,11 @@ use Rattle.zy_search.specs.Searches.{IsAnswer}
 use Rattle.zy_engine.specs.declared.searching.SearchOptions.{SearchOptions}
 use Rattle.zy_engine.specs.Searching.{history_of, taken, IsTextOf, WroteAnswer, WroteSome}
 use Rattle.zy_io.proofs.StreamLemmas.{WrotePrefix-none}
+use Rattle.zy_laws.proofs.walk.PlayPush.{length-entries}
 use Rattle.zy_machine.specs.Histories.{History}
 use Rattle.zy_machine.specs.Replays.{Follows}
 use Rattle.zy_machine.specs.Replays.{state_at}
-use Rattle.zy_table.specs.Play.{step, play, opening, entries}
+use Rattle.zy_table.specs.Play.{play, opening, entries}
 use Rattle.zy_table.specs.State.{State}
 use Rattle.zy_table.specs.declared.entry.Entry.{Entry}
 
@@ -40,11 +41,6 @@ short : {X : Type 0} (n : ℕ) (xs : List X) → length (take n xs) ≤ length x
 short zero xs = omega arith
 short (suc n) [] = omega arith
 short (suc n) (x ∷ xs) = omega (arith, short n xs)
-
--- a run has a step for each choice
-length-entries : (sc : Scenario) (s : State) (cs : List Choice) → length (entries sc s cs) ≡ length cs
-length-entries sc s [] = refl
-length-entries sc s (c ∷ cs) = ap suc (length-entries sc (step sc c s).after cs)
 
 -- a machine has a step for each choice that is a step already taken
 taken-length : (from : Option ℕ) (sc : Scenario) → length (history_of from sc).entries ≡ length (taken from sc)

@@ -7,9 +7,10 @@ use Rattle.zy_io.specs.declared.writing.TextFault.{TextFault}
 use Rattle.zy_io.specs.declared.writing.TextFault.TheVariants as writing
 use Rattle.zy_isa.specs.Scenario.{Scenario}
 use Rattle.zy_text.specs.Cut.{cut}
-use Rattle.zy_listing.specs.Run.{listing_run}
+use Rattle.zy_listing.specs.Run.{listing_run, run_of}
 use Rattle.zy_check.specs.declared.verdict.Verdict.{Verdict}
 use Rattle.zy_check.specs.Differs.{verdict, verdict_text}
+use Rattle.zy_engine.specs.declared.checking.CheckedListing.{CheckedListing}
 use Rattle.zy_engine.specs.declared.faults.BenchFault.{BenchFault}
 use Rattle.zy_engine.specs.declared.format.Format.TheVariants.{Text}
 use Rattle.zy_engine.specs.OnInput.{OnInput}
@@ -26,12 +27,13 @@ module _ (old new : Option (List ℕ)) (before after : ℕ) where
   WroteOrNothing (Err writing.Write) text = WrotePrefix old new text × (after ≡ before + 1)
   WroteOrNothing (Err writing.Memory) text = (new ≡ old) × (after ≡ before)
 
--- a call that writes the verdict on an input and the listing of a scenario, and returns it
+-- a call that writes the verdict on an input and the listing of a scenario, and returns it with the machine of the run
 pub record WroteVerdict (input : List ℕ) (sc : Scenario) (old new : Option (List ℕ)) (before after : ℕ)
-    (result : Result Verdict TextFault) : Type 0 where
-  pub returned : IfOk result (λ v. v ≡ verdict input (listing_run sc))
+    (result : Result CheckedListing TextFault) : Type 0 where
+  pub returned : IfOk result (λ c. c.verdict ≡ verdict input (listing_run sc))
+  pub machine : IfOk result (λ c. c.machine ≡ run_of sc)
   pub wrote : WroteOrNothing old new before after result (verdict_line (verdict input (listing_run sc)))
 
 -- it is due for the scenario part of the input
-abbrev pub Checks : List ℕ → Option (List ℕ) → Option (List ℕ) → ℕ → ℕ → Result Verdict BenchFault → Type 0
+abbrev pub Checks : List ℕ → Option (List ℕ) → Option (List ℕ) → ℕ → ℕ → Result CheckedListing BenchFault → Type 0
 Checks input = OnInput (WroteVerdict input) Text (cut input)

@@ -1,6 +1,8 @@
 //! The engine that checks a listing.
 ghost use Rattle.std.specs.Prelude.{◌≡◌, ◌<◌, IfOk};
+ghost use Rattle.zy_check.specs.Differs.{verdict};
 ghost use Rattle.zy_engine.specs.Checks.{Checks, WroteVerdict, WroteOrNothing, verdict_line};
+ghost use Rattle.zy_listing.specs.Run.{listing_of};
 ghost use Rattle.zy_io.specs.Inputs.{ReadsInput, streams};
 ghost use Rattle.zy_engine.specs.Faults.{of_reading};
 
@@ -12,6 +14,7 @@ use zy_check::check::compare;
 use zy_io::reading::read_all;
 use zy_io::{Line, LineBuffer, Sink, Source, TextFault};
 use zy_isa::Scenario;
+use zy_machine::Machine;
 
 /// The words of a verdict, and the end of their line.
 fn line_of(alloc: Global, verdict: Verdict) -> Result<LineBuffer, AllocError>
@@ -34,36 +37,67 @@ fn tell<K: Sink>(alloc: Global, verdict: Verdict, sink: &mut K) -> Result<(), Te
     Ok(())
 }
 
-/// Compares an input with the listing of a scenario, writes the verdict, and gives it. Nothing is written before that is known.
+/// A verdict on a listing, and the machine that it was compared with.
+#[derive(Drop)]
+pub struct CheckedListing {
+    pub verdict: Verdict,
+    /// It has made all choices of the scenario.
+    pub machine: Machine,
+}
+
+/// Compares an input with the listing of a machine, writes the verdict, and gives it. Nothing is written before that is known.
 fn write_verdict<K: Sink>(
     alloc: Global,
     input: &[u8],
-    scenario: Scenario,
+    machine: &Machine,
     sink: &mut K,
 ) -> Result<Verdict, TextFault>
     requires { K.failures sink.old < u64.MAX }
-    ensures { WroteVerdict input.now scenario (K.written sink.old) (K.written sink.new) (K.failures sink.old)
-        (K.failures sink.new) result }
+    ensures returned { IfOk result (λ v. v ≡ verdict input.now (listing_of machine.now)) }
+    ensures wrote { WroteOrNothing (K.written sink.old) (K.written sink.new) (K.failures sink.old)
+        (K.failures sink.new) result (verdict_line (verdict input.now (listing_of machine.now))) }
 {
-    let verdict = compare(alloc, input, scenario)?;
+    let verdict = compare(alloc, input, machine)?;
     tell(alloc, verdict, sink)?;
     Ok(verdict)
 }
 
+/// Makes the choices of a scenario, compares an input with the listing, and writes the verdict.
+fn check_run<K: Sink>(
+    alloc: Global,
+    input: &[u8],
+    scenario: Scenario,
+    sink: &mut K,
+) -> Result<CheckedListing, TextFault>
+    requires { K.failures sink.old < u64.MAX }
+    ensures { WroteVerdict input.now scenario (K.written sink.old) (K.written sink.new) (K.failures sink.old)
+        (K.failures sink.new) result }
+{
+    let machine = Machine::run_all(alloc, scenario)?;
+    match write_verdict(alloc, input, &machine, sink) {
+        Ok(verdict) => Ok(CheckedListing { verdict, machine }),
+        Err(fault) => {
+            machine.discard();
+            Err(fault)
+        }
+    }
+}
+
 /// Writes whether an input is the listing of the scenario at its head: `table`, or `not table` and the line in which they first
-/// differ. It gives that verdict. Nothing is written before that is known.
+/// differ. It gives that verdict, and the machine that has made the scenario's choices. Nothing is written before the verdict is
+/// known.
 pub fn check_input<K: Sink>(
     alloc: Global,
     input: &[u8],
     sink: &mut K,
-) -> Result<Verdict, BenchFault>
+) -> Result<CheckedListing, BenchFault>
     requires { K.failures sink.old < u64.MAX }
     ensures { Checks input.now (K.written sink.old) (K.written sink.new) (K.failures sink.old) (K.failures sink.new) result }
 {
     let (part, _) = split_scenario(input);
     let scenario = accept(alloc, Format::Text, part)?;
-    let verdict = write_verdict(alloc, input, scenario, sink)?;
-    Ok(verdict)
+    let checked = check_run(alloc, input, scenario, sink)?;
+    Ok(checked)
 }
 
 /// Reads an input whole, and then does what `check_input` does. The bytes that were read are left in `input`.
@@ -72,7 +106,7 @@ pub fn check_bytes<S: Source, K: Sink>(
     source: &mut S,
     sink: &mut K,
     input: &mut Vec<u8>,
-) -> Result<Verdict, BenchFault>
+) -> Result<CheckedListing, BenchFault>
     requires { (S.failures source.old < u64.MAX) × (K.failures sink.old < u64.MAX) }
     ensures { let at = streams S.left S.failures S.given K.written K.failures in
         ReadsInput of_reading Checks (at source.old sink.old) (at source.new sink.new) result }

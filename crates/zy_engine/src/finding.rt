@@ -2,14 +2,11 @@
 ghost use Rattle.std.specs.Prelude.{◌<◌, map};
 ghost use Rattle.std.specs.Fmt.{decimal};
 ghost use Rattle.zy_engine.specs.Finding.{positions_text};
-ghost use Rattle.zy_engine.specs.OnInput.{OnInput};
 ghost use Rattle.zy_listing.specs.Run.{WroteOutput};
 
-use crate::faults::BenchFault;
-use crate::format::{Format, accept};
+use crate::accepted::AcceptedInput;
 use std::alloc::{AllocError, Global};
 use zy_io::{AllLines, Decimal, Line, LineBuffer, Lines, Section, Sink, TextFault};
-use zy_isa::Scenario;
 use zy_search::Sought;
 use zy_search::along::along;
 
@@ -29,38 +26,21 @@ impl Lines for Numbers<'_> {
     }
 }
 
-/// Makes the choices of a scenario, and writes the positions at which its state shows what is looked for. It gives how
-/// many there are.
-fn write_positions<K: Sink>(
+/// Makes the choices of the scenario of an input, and writes the positions at which its state shows what is looked for, one a
+/// line: how many choices are made there. It gives how many there are.
+pub fn find_input<K: Sink>(
     alloc: Global,
-    scenario: Scenario,
+    input: &AcceptedInput<'_>,
     sought: &Sought,
     sink: &mut K,
 ) -> Result<usize, TextFault>
     requires { K.failures sink.old < u64.MAX }
-    ensures { WroteOutput (positions_text sought.now) scenario (K.written sink.old) (K.written sink.new)
+    ensures { WroteOutput (positions_text sought.now) input.now.scenario (K.written sink.old) (K.written sink.new)
         (K.failures sink.old) (K.failures sink.new) result }
 {
+    let scenario = input.scenario.copy(alloc)?;
     let positions = along(alloc, scenario, sought)?;
     let mut line = LineBuffer::new(alloc);
     AllLines(Numbers(&positions)).write(sink, &mut line)?;
     Ok(positions.len())
-}
-
-/// Makes the choices of the scenario that an input stands for, and writes the positions at which its state shows what is
-/// looked for, one a line: how many choices are made there. It gives how many there are.
-pub fn find_input<K: Sink>(
-    alloc: Global,
-    format: Format,
-    sought: &Sought,
-    input: &[u8],
-    sink: &mut K,
-) -> Result<usize, BenchFault>
-    requires { K.failures sink.old < u64.MAX }
-    ensures { OnInput (WroteOutput (positions_text sought.now)) format input.now (K.written sink.old) (K.written sink.new)
-        (K.failures sink.old) (K.failures sink.new) result }
-{
-    let scenario = accept(alloc, format, input)?;
-    let count = write_positions(alloc, scenario, sought, sink)?;
-    Ok(count)
 }

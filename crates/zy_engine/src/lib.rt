@@ -1,6 +1,7 @@
 //! What each command of the program but `order` does, as functions from bytes to bytes, and why one gives up.
 #![tactic(auto)]
 
+pub mod accepted;
 pub mod checking;
 pub mod debugging;
 pub mod ending;
@@ -16,6 +17,8 @@ mod step_objects;
 pub mod threading;
 pub mod wording;
 
+pub use crate::accepted::AcceptedInput;
+pub use crate::checking::CheckedListing;
 pub use crate::ending::Ending;
 pub use crate::faults::BenchFault;
 pub use crate::format::Format;

@@ -5,11 +5,10 @@ ghost use Rattle.zy_text.specs.Canon.{canon};
 ghost use Rattle.zy_text.specs.Text.{Means};
 ghost use Rattle.zy_threads.specs.Orders.{reordered};
 ghost use Rattle.zy_engine.specs.declared.wording.Wording.TheVariants.{Own};
-ghost use Rattle.zy_engine.specs.OnInput.{OnInput};
 ghost use Rattle.zy_engine.specs.Searching.{history_of, IsTextOf, IsWorded, WroteAnswer, WroteSome};
 
+use crate::accepted::AcceptedInput;
 use crate::faults::BenchFault;
-use crate::format::{Format, accept};
 use crate::same::same_scenario;
 use crate::wording::{Wording, reworded};
 use std::alloc::{AllocError, Global};
@@ -27,8 +26,6 @@ use zy_text::Each;
 /// What a search goes by, beside what it looks for.
 #[derive(Clone, Copy)]
 pub struct SearchOptions {
-    /// What the input is written in.
-    pub format: Format,
     /// How what is found is written. Of an image there is canonical text alone.
     pub wording: Wording,
     /// How many of the scenario's choices are steps already taken; all, where it is none or more than there are.
@@ -39,11 +36,9 @@ pub struct SearchOptions {
     pub threads: u32,
 }
 
-/// What a search is asked.
+/// What a search is asked of a scenario.
 #[derive(Drop)]
-pub struct Question<'a> {
-    /// The text or the image of the scenario that it is about.
-    pub input: &'a [u8],
+pub struct Question {
     /// What the search goes by.
     pub options: SearchOptions,
     /// What it looks for.
@@ -65,10 +60,15 @@ fn run_first(alloc: Global, scenario: Scenario, count: usize) -> Result<Machine,
     }
 }
 
-/// The machine of a scenario that has made the choices which are steps already taken.
-fn run_taken(alloc: Global, scenario: Scenario, from: Option<usize>) -> Result<Machine, Fault>
-    ensures { IfOk result (λ m. m ≡ history_of from scenario) }
+/// A machine of the scenario of an input that has made the choices which are steps already taken.
+pub fn run_taken(
+    alloc: Global,
+    input: &AcceptedInput<'_>,
+    from: Option<usize>,
+) -> Result<Machine, Fault>
+    ensures { IfOk result (λ m. m ≡ history_of from input.now.scenario) }
 {
+    let scenario = input.scenario.copy(alloc)?;
     match from {
         None => Machine::run_all(alloc, scenario),
         Some(count) => run_first(alloc, scenario, count),
@@ -220,70 +220,36 @@ fn write_answer<K: Sink>(
     }
 }
 
-/// Looks at the states that further choices lead to from a machine, which has made the choices that are steps already taken,
-/// and writes what goes out of the answer.
-fn search_from<R: Threads + Sync, K: Sink, W: Watch>(
+/// Looks for a state that shows what is sought among those that further choices lead to from a machine of the input's scenario,
+/// which has made the choices that are steps already taken. Where there is one, the scenario goes out with these choices and a
+/// shortest list of further ones behind them; else nothing does. The watch learns how far the search is.
+pub fn search_input<R: Threads + Sync, K: Sink, W: Watch>(
     rt: &R,
     alloc: Global,
-    question: Question<'_>,
+    input: &AcceptedInput<'_>,
+    question: Question,
     machine: &Machine,
     sink: &mut K,
     watch: &mut W,
 ) -> Result<SearchReport, TextFault>
-    requires ran { machine.now ≡ history_of question.options.from machine.now.scenario }
+    requires taken { machine.now ≡ history_of question.options.from input.now.scenario }
     requires calls { K.failures sink.old < u64.MAX }
-    ensures { WroteAnswer question.entry.options question.entry.sought machine.now.scenario (K.written sink.old)
+    ensures { WroteAnswer question.options question.sought input.now.scenario (K.written sink.old)
         (K.written sink.new) (K.failures sink.old) (K.failures sink.new) result }
 {
-    let Question {
-        input: text,
-        options,
-        sought,
-    } = question;
+    let Question { options, sought } = question;
     let limits = Limits {
         states: options.most,
         threads: options.threads,
     };
     let report = search(rt, alloc, machine, sought, limits, watch)?;
-    write_answer(alloc, options.wording, text, machine, &report.answer, sink)?;
-    Ok(report)
-}
-
-/// Makes the choices that are steps already taken of the scenario that the question is about, looks at the states that
-/// further ones lead to, and writes what goes out of the answer.
-fn write_search<R: Threads + Sync, K: Sink, W: Watch>(
-    rt: &R,
-    alloc: Global,
-    question: Question<'_>,
-    scenario: Scenario,
-    sink: &mut K,
-    watch: &mut W,
-) -> Result<SearchReport, TextFault>
-    requires { K.failures sink.old < u64.MAX }
-    ensures { WroteAnswer question.entry.options question.entry.sought scenario (K.written sink.old) (K.written sink.new)
-        (K.failures sink.old) (K.failures sink.new) result }
-{
-    let machine = run_taken(alloc, scenario, question.options.from)?;
-    let report = search_from(rt, alloc, question, &machine, sink, watch);
-    machine.discard();
-    report
-}
-
-/// Makes the choices that are steps already taken of the scenario that a question is about, and looks for a state that
-/// further ones lead to and that shows what is sought. Where there is one, the scenario goes out with these choices and
-/// a shortest list of further ones behind them; else nothing does. The watch learns how far the search is.
-pub fn search_input<R: Threads + Sync, K: Sink, W: Watch>(
-    rt: &R,
-    alloc: Global,
-    question: Question<'_>,
-    sink: &mut K,
-    watch: &mut W,
-) -> Result<SearchReport, BenchFault>
-    requires { K.failures sink.old < u64.MAX }
-    ensures { OnInput (WroteAnswer question.entry.options question.entry.sought) question.entry.options.format
-        question.entry.input.now (K.written sink.old) (K.written sink.new) (K.failures sink.old) (K.failures sink.new) result }
-{
-    let scenario = accept(alloc, question.options.format, question.input)?;
-    let report = write_search(rt, alloc, question, scenario, sink, watch)?;
+    write_answer(
+        alloc,
+        options.wording,
+        input.bytes,
+        machine,
+        &report.answer,
+        sink,
+    )?;
     Ok(report)
 }

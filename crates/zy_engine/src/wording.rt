@@ -1,10 +1,11 @@
 //! A scenario text with other choices, in its own words.
 
 use std::alloc::{AllocError, Global};
+use zy_asm::names::names_of;
 use zy_io::{Decimal, Line, LineBuffer, joined};
 use zy_isa::Choice;
 use zy_text::line::take_line;
-use zy_text::names::{is, is_name};
+use zy_text::names::is;
 use zy_text::numbers::number_of;
 use zy_text::{Canonical, Words};
 
@@ -19,9 +20,7 @@ pub enum Wording {
 
 /// What a line of a scenario text is.
 #[derive(Clone, Copy)]
-enum LineKind<'a> {
-    /// The head of a program: the name of its transaction, empty where it has its number alone.
-    Head(&'a [u8]),
+enum LineKind {
     /// A choice, and how often it is made.
     Choice(usize),
     /// The end.
@@ -38,17 +37,15 @@ fn times(words: &[&[u8]]) -> usize {
     }
 }
 
-impl<'a> LineKind<'a> {
+impl LineKind {
     /// What a line is, by its words.
-    fn of(line: &'a [u8]) -> LineKind<'a> {
+    fn of(line: &[u8]) -> LineKind {
         if line.is_empty() {
             return LineKind::Other;
         }
         let mut words = Words::new();
         take_line(&mut words, line);
         match words.as_slice() {
-            [b"txn", name, ..] if is_name(name) => LineKind::Head(name),
-            [b"txn", ..] => LineKind::Head(&[]),
             [b"A" | b"B" | b"C", ..] => LineKind::Choice(times(words.as_slice())),
             [b"end"] => LineKind::End,
             _ => LineKind::Other,
@@ -57,47 +54,40 @@ impl<'a> LineKind<'a> {
 }
 
 /// The parts of a scenario text that its own words are kept of.
-#[derive(Drop)]
-struct Parts<'a> {
+#[derive(Clone, Copy)]
+struct Parts {
     /// How many bytes are above the first choice that is not kept whole, or above the end.
     above: usize,
     /// How many choices they have.
     choices: usize,
     /// How many bytes are above the end.
     body: usize,
-    /// The name of each transaction, at its number; empty where it has its number alone.
-    names: Vec<&'a [u8]>,
 }
 
-impl<'a> Parts<'a> {
+impl Parts {
     /// Those of a text of which this number of choices is kept.
-    fn of(alloc: Global, text: &'a [u8], kept: usize) -> Result<Parts<'a>, AllocError> {
+    fn of(text: &[u8], kept: usize) -> Parts {
         let mut parts = Parts {
             above: 0,
             choices: 0,
             body: 0,
-            names: Vec::new(alloc),
         };
         for line in text.split(|byte| *byte == b'\n') {
             let kind = LineKind::of(line);
             if matches!(kind, LineKind::End) {
                 break;
             }
-            parts.add(kind, line.len().saturating_add(1), kept)?;
+            parts.add(kind, line.len().saturating_add(1), kept);
         }
-        Ok(parts)
+        parts
     }
 
     /// Goes on over a line of this length.
-    fn add(&mut self, kind: LineKind<'a>, len: usize, kept: usize) -> Result<(), AllocError> {
+    fn add(&mut self, kind: LineKind, len: usize, kept: usize) {
         let is_whole = self.above == self.body;
         self.body = self.body.saturating_add(len);
         let count = match kind {
             LineKind::Choice(count) => count,
-            LineKind::Head(name) => {
-                self.names.push(name)?;
-                0
-            }
             _ => 0,
         };
         let choices = self.choices.saturating_add(count);
@@ -105,36 +95,35 @@ impl<'a> Parts<'a> {
             self.choices = choices;
             self.above = self.body;
         }
-        Ok(())
     }
+}
 
-    /// Appends the name of a transaction, or else its number.
-    fn append_txn(&self, txn: u8, line: &mut LineBuffer) -> Result<(), AllocError> {
-        match self.names.get(usize::from(txn)) {
-            Some(name) if !name.is_empty() => line.push_bytes(name),
-            _ => Decimal(txn).append(line),
-        }
+/// Appends the name of a transaction, or else its number.
+fn append_txn(names: &[&[u8]], txn: u8, line: &mut LineBuffer) -> Result<(), AllocError> {
+    match names.get(usize::from(txn)) {
+        Some(name) if !name.is_empty() => line.push_bytes(name),
+        _ => Decimal(txn).append(line),
     }
+}
 
-    /// Appends a choice as a line.
-    fn append_choice(&self, choice: Choice, line: &mut LineBuffer) -> Result<(), AllocError> {
-        match choice {
-            Choice::Begin(txn) => {
-                "C begin ".append(line)?;
-                self.append_txn(txn, line)?;
-            }
-            Choice::Kill(txn) => {
-                "C kill ".append(line)?;
-                self.append_txn(txn, line)?;
-            }
-            Choice::Run(node, txn) => {
-                joined!(Canonical(node), " run ").append(line)?;
-                self.append_txn(txn, line)?;
-            }
-            other => Canonical(other).append(line)?,
+/// Appends a choice as a line, with the names of the transactions.
+fn append_choice(names: &[&[u8]], choice: Choice, line: &mut LineBuffer) -> Result<(), AllocError> {
+    match choice {
+        Choice::Begin(txn) => {
+            "C begin ".append(line)?;
+            append_txn(names, txn, line)?;
         }
-        line.push(b'\n')
+        Choice::Kill(txn) => {
+            "C kill ".append(line)?;
+            append_txn(names, txn, line)?;
+        }
+        Choice::Run(node, txn) => {
+            joined!(Canonical(node), " run ").append(line)?;
+            append_txn(names, txn, line)?;
+        }
+        other => Canonical(other).append(line)?,
     }
+    line.push(b'\n')
 }
 
 /// The text of a scenario with these choices in place of its own, of which the first `kept` are its own. All above the
@@ -146,12 +135,13 @@ pub(crate) fn reworded(
     kept: usize,
     choices: &[Choice],
 ) -> Result<LineBuffer, AllocError> {
-    let parts = Parts::of(alloc, text, kept)?;
+    let names = names_of(alloc, text)?;
+    let parts = Parts::of(text, kept);
     let mut reworded = LineBuffer::new(alloc);
     let (above, _) = text.split_at(parts.above.min(text.len()));
     reworded.push_bytes(above)?;
     for choice in choices.iter().skip(parts.choices) {
-        parts.append_choice(*choice, &mut reworded)?;
+        append_choice(&names, *choice, &mut reworded)?;
     }
     let (_, end) = text.split_at(parts.body.min(text.len()));
     reworded.push_bytes(end)?;

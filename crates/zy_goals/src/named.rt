@@ -41,11 +41,6 @@ impl Named {
             pages: self.pages.max(other.pages),
         }
     }
-
-    /// Whether nothing is named.
-    pub fn is_nothing(self) -> bool {
-        self.txns == 0 && self.pages == 0
-    }
 }
 
 /// What a term names.

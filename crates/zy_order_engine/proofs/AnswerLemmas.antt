@@ -8,7 +8,6 @@ use Rattle.zy_text.specs.Cut.{cut}
 use Rattle.zy_text.specs.Text.{Means}
 use Rattle.zy_logs.specs.declared.logs.NumberedLine.{NumberedLine}
 use Rattle.zy_order.specs.declared.answer.OrderAnswer.{OrderAnswer}
-use Rattle.zy_order.specs.declared.answer.OrderReport.{OrderReport}
 use Rattle.zy_logs.specs.Logs.{steps}
 use Rattle.zy_order.specs.declared.gaps.Gaps.{Gaps}
 use Rattle.zy_order.specs.Answers.{IsAnswer}
@@ -21,6 +20,7 @@ use Rattle.zy_order_engine.specs.declared.faults.BelowFault.{BelowFault}
 use Rattle.zy_order_engine.specs.declared.faults.BelowFault.TheVariants as misread
 use Rattle.zy_order_engine.specs.declared.faults.OrderFault.TheVariants.{Bench}
 use Rattle.zy_order_engine.specs.declared.options.OrderOptions.{OrderOptions}
+use Rattle.zy_order_engine.specs.declared.ordering.OrderedLogs.{OrderedLogs}
 use Rattle.zy_order_engine.specs.Faults.{of_below}
 use Rattle.zy_order_engine.specs.Ordering.{below, Answers, IsAnswerOf, IsAnswerTo, IsTextOf, ReadsBelow, SaysIn}
 use Rattle.zy_order_engine.specs.Ordering.{WroteOrder, WrotePart}
@@ -83,14 +83,14 @@ module _ (o : OrderOptions) (input : List ℕ) (old : Option (List ℕ)) (before
     part_to new (inr p) = inr (p.0, p.1, answer_to p.0 p.1 p.2, p.3)
 
     -- a text of the answer went out
-    pub wrote_to : (new : Option (List ℕ)) (after : ℕ) (r : OrderReport) → WroteOrder (IsAnswerOf o sc lines) old new before after (Ok r)
+    pub wrote_to : (new : Option (List ℕ)) (after : ℕ) (r : OrderedLogs) → WroteOrder (IsAnswerOf o sc lines) old new before after (Ok r.report)
         → Answers o input old new before after (Ok r)
     wrote_to new after r wrote =
         let text = wrote.0.0 in
-        let is = answer_to r.answer text wrote.0.1 in
+        let is = answer_to r.report.answer text wrote.0.1 in
         record {
           answered = (text, is, wrote.0.2);
-          part = inr (r.answer, text, is, (text, [], sym (append-nil text), wrote.0.2));
+          part = inr (r.report.answer, text, is, (text, [], sym (append-nil text), wrote.0.2));
           fault = tt;
           quiet = tt;
           writes = omega (arith, wrote.1);

@@ -11,7 +11,8 @@ use Rattle.zy_logs.specs.declared.txns.Txns.{Txns}
 use Rattle.zy_logs.specs.Logs.{choices_of, logs_of, Reads}
 use Rattle.zy_logs.proofs.NamedLemmas.{logs_named, logs_few}
 use Rattle.zy_engine.specs.Searching.{history_of}
-use Rattle.zy_order_engine.proofs.TakenLemmas.{ran_length}
+use Rattle.zy_table.specs.Play.{opening}
+use Rattle.zy_laws.proofs.walk.PlayPush.{length-entries}
 use Rattle.zy_order_engine.specs.declared.faults.BelowFault.{BelowFault}
 use Rattle.zy_order_engine.specs.declared.log_format.LogFormat.{LogFormat}
 use Rattle.zy_order_engine.specs.Ordering.{below, AreTxnsOf, SaysIn, ReadsBelow, ReadsLines, CanFollow, line_below, room}
@@ -49,7 +50,7 @@ can_follow f gap text under sc lines is said = let says = said.says in record {
       (logs_named says.txns gap (room sc) (line_below text) said.logs lines says.logs);
   room = omega (
     arith,
-    ran_length sc,
+    length-entries sc (opening sc) sc.choices,
     is.few_choices,
     logs_few says.txns gap (room sc) (line_below text) said.logs lines says.logs,
   );

@@ -1,5 +1,4 @@
 pub mod MissingLemmas
-mod NameLemmas
 mod TakenLemmas
 mod BelowLemmas
 mod AnswerLemmas

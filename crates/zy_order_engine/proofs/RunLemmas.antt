@@ -22,7 +22,7 @@ use Rattle.zy_order.proofs.OrderLemmas.{is_same, lines_cons}
 use Rattle.zy_order.proofs.LineLemmas.{lines_lengths}
 use Rattle.zy_engine.specs.Searching.{history_of}
 use Rattle.zy_order_engine.specs.Runs.{extended, steps_of, AgreeEach, RunsOrder, RunsPrefix}
-use Rattle.zy_order_engine.proofs.TakenLemmas.{length-entries}
+use Rattle.zy_laws.proofs.walk.PlayPush.{length-entries}
 
 -- ---- its steps
 

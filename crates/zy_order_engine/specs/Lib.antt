@@ -1,5 +1,4 @@
 pub mod Missing
-pub mod Names
 pub mod Faults
 pub mod Ordering
 pub mod Runs

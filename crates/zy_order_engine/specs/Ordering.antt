@@ -14,6 +14,7 @@ use Rattle.zy_text.specs.Cut.{cut}
 use Rattle.zy_text.specs.Lines.{texts}
 use Rattle.zy_text.specs.Words.{lines_of}
 use Rattle.zy_text.specs.Text.{Means}
+use Rattle.zy_asm.specs.Names.{names_of}
 use Rattle.zy_threads.specs.Orders.{reordered}
 use Rattle.zy_logs.specs.declared.faults.LogFault.{LogFault}
 use Rattle.zy_logs.specs.declared.faults.LogFault.TheVariants as reading
@@ -35,13 +36,13 @@ use Rattle.zy_engine.specs.Searching.{history_of, IsWorded}
 use Rattle.zy_order_engine.specs.declared.faults.BelowFault.{BelowFault}
 use Rattle.zy_order_engine.specs.declared.faults.BelowFault.TheVariants as misread
 use Rattle.zy_order_engine.specs.declared.options.OrderOptions.{OrderOptions}
+use Rattle.zy_order_engine.specs.declared.ordering.OrderedLogs.{OrderedLogs}
 use Rattle.zy_order_engine.specs.declared.faults.OrderFault.{OrderFault}
 use Rattle.zy_order_engine.specs.declared.faults.OrderFault.TheVariants.{Bench, Log, Json}
 use Rattle.zy_order_engine.specs.declared.log_format.LogFormat.{LogFormat}
 use Rattle.zy_order_engine.specs.declared.log_format.LogFormat.TheVariants as format
 use Rattle.zy_order_engine.specs.Faults.{failed_writes, IsQuiet}
 use Rattle.zy_order_engine.specs.Missing.{AreGapsIn}
-use Rattle.zy_order_engine.specs.Names.{names_of}
 
 -- ---- the input
 
@@ -130,6 +131,11 @@ IsFaultOf o input (Bench f) = IsTextFault (cut input) f ⊎ (f ≡ bench.Write)
 IsFaultOf o input (Log r) = (sc : Scenario) × Means (cut input) sc × SaysIn o.logs o.gap (cut input) (below input) sc (Err r)
 IsFaultOf o input (Json r) = (sc : Scenario) × Means (cut input) sc × IsNoObject o.logs (cut input) (below input) r
 
+-- a machine that has made all choices of the scenario that an input means
+pub record HasRun (input : List ℕ) (m : History) : Type 0 where
+  pub means : Means (cut input) m.scenario
+  pub ran : m ≡ history_of None m.scenario
+
 -- ---- what goes out
 
 -- nothing went out, or a prefix of a text of an answer
@@ -149,9 +155,9 @@ WroteOrder Is old new before after (Err Memory) = WrotePart Is old new × (after
 
 -- the engine, on an input in hand
 pub record Answers (o : OrderOptions) (input : List ℕ) (old new : Option (List ℕ)) (before after : ℕ)
-    (result : Result OrderReport OrderFault) : Type 0 where
+    (result : Result OrderedLogs OrderFault) : Type 0 where
   -- at Ok the answer is one for what the input means, and exactly a text of it went out
-  pub answered : IfOk result (λ r. WroteText (IsAnswerTo o input) old new r.answer)
+  pub answered : IfOk result (λ r. WroteText (IsAnswerTo o input) old new r.report.answer)
   -- whatever comes, nothing but a prefix of a text of an answer went out
   pub part : WrotePart (IsAnswerTo o input) old new
   -- a rejected input is reported by its first fault

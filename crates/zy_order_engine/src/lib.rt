@@ -7,11 +7,11 @@ pub mod laws;
 pub mod log_format;
 pub mod logs_below;
 mod missing;
-pub mod names;
 pub mod options;
 pub mod ordering;
 
 pub use crate::faults::{BelowFault, OrderFault};
 pub use crate::log_format::LogFormat;
 pub use crate::options::OrderOptions;
+pub use crate::ordering::OrderedLogs;
 pub use zy_order::Watch;

@@ -7,8 +7,8 @@ ghost use Rattle.zy_order_engine.specs.Ordering.{line_below, ReadsBelow, ReadsLi
 
 use crate::faults::BelowFault;
 use crate::log_format::LogFormat;
-use crate::names::names_of;
 use std::alloc::{AllocError, Global};
+use zy_asm::names::names_of;
 use zy_isa::{MAX_CHOICES, Scenario};
 use zy_json::logs::read_objects;
 use zy_logs::logs::read_logs;

@@ -1,10 +1,11 @@
 //! The engine that looks for an order of logs.
-ghost use Rattle.std.specs.Prelude.{◌≡◌, ◌<◌, ◌≤◌, None, length};
+ghost use Rattle.std.specs.Prelude.{◌≡◌, ◌<◌, ◌≤◌, None, length, IfErr, IfOk};
 ghost use Rattle.zy_io.specs.Streams.{max_input};
 ghost use Rattle.zy_io.specs.Inputs.{ReadsInput, streams};
 ghost use Rattle.zy_engine.specs.Searching.{history_of, WroteSome};
+ghost use Rattle.zy_engine.specs.declared.faults.BenchFault.TheVariants.{Memory};
 ghost use Rattle.zy_order_engine.specs.Faults.{of_reading};
-ghost use Rattle.zy_order_engine.specs.Ordering.{Answers, CanFollow, IsAnswerOf, IsTextOf, WroteOrder};
+ghost use Rattle.zy_order_engine.specs.Ordering.{Answers, CanFollow, HasRun, IsAnswerOf, IsTextOf, WroteOrder};
 
 use crate::faults::OrderFault;
 use crate::logs_below::{read_below, steps};
@@ -13,7 +14,7 @@ use crate::options::OrderOptions;
 use std::alloc::Global;
 use zy_engine::format::{accept, split_scenario};
 use zy_engine::searching::write_found;
-use zy_engine::{Format, Wording};
+use zy_engine::{BenchFault, Format, Wording};
 use zy_io::reading::read_all;
 use zy_io::{Sink, Source, TextFault};
 use zy_isa::Scenario;
@@ -43,12 +44,15 @@ fn write_answer<K: Sink>(
     }
 }
 
-/// A scenario with its own text, and the lines of logs below it.
+/// What came of a search for an order, and what it was made of.
 #[derive(Drop)]
-struct LoggedScenario<'a> {
-    text: &'a [u8],
-    scenario: Scenario,
-    lines: &'a [NumberedLine],
+pub struct OrderedLogs {
+    /// What came of it.
+    pub report: OrderReport,
+    /// A machine that has made all choices of the scenario.
+    pub machine: Machine,
+    /// The lines of the logs, each with its number in the whole input.
+    pub lines: Vec<NumberedLine>,
 }
 
 /// A machine that has made all choices of its scenario, with the scenario's own text and the lines of logs below it.
@@ -87,34 +91,13 @@ fn order_from<K: Sink, W: Watch>(
     Ok(report)
 }
 
-/// Makes the choices of a scenario, looks for an order of the lines of its logs behind them, and writes what goes out of the
-/// answer.
-fn write_order<K: Sink, W: Watch>(
-    alloc: Global,
-    options: OrderOptions,
-    logged: LoggedScenario<'_>,
-    sink: &mut K,
-    watch: &mut W,
-) -> Result<OrderReport, TextFault>
-    requires input { CanFollow (history_of None logged.scenario) options.gap logged.lines.now }
-    requires calls { K.failures sink.old < u64.MAX }
-    ensures { WroteOrder (IsAnswerOf options logged.entry.scenario logged.entry.lines.now)
-        (K.written sink.old) (K.written sink.new) (K.failures sink.old) (K.failures sink.new) result }
+/// A machine that has made all choices of a scenario.
+fn run(alloc: Global, scenario: Scenario) -> Result<Machine, BenchFault>
+    ensures run { IfOk result (λ m. m ≡ history_of None scenario) }
+    ensures fault { IfErr result (λ f. f ≡ Memory) }
 {
-    let LoggedScenario {
-        text,
-        scenario,
-        lines,
-    } = logged;
     let machine = Machine::run_all(alloc, scenario)?;
-    let run = LoggedRun {
-        text,
-        machine: &machine,
-        lines,
-    };
-    let report = order_from(alloc, options, run, sink, watch);
-    machine.discard();
-    report
+    Ok(machine)
 }
 
 /// Answers an input: a scenario text through its first line whose only word is `end`, and below it lines of three logs, mixed in
@@ -127,22 +110,33 @@ pub fn order_input<K: Sink, W: Watch>(
     input: &[u8],
     sink: &mut K,
     watch: &mut W,
-) -> Result<OrderReport, OrderFault>
+) -> Result<OrderedLogs, OrderFault>
     requires few { length input.now ≤ max_input }
     requires calls { K.failures sink.old < u64.MAX }
-    ensures { Answers options input.now (K.written sink.old) (K.written sink.new) (K.failures sink.old)
+    ensures answers { Answers options input.now (K.written sink.old) (K.written sink.new) (K.failures sink.old)
         (K.failures sink.new) result }
+    ensures run { IfOk result (λ r. HasRun input.now r.machine) }
 {
     let (text, below) = split_scenario(input);
     let scenario = accept(alloc, Format::Text, text)?;
     let lines = read_below(alloc, options.logs, options.gap, &scenario, text, below)?;
-    let logged = LoggedScenario {
+    let machine = run(alloc, scenario)?;
+    let run = LoggedRun {
         text,
-        scenario,
+        machine: &machine,
         lines: &lines,
     };
-    let report = write_order(alloc, options, logged, sink, watch)?;
-    Ok(report)
+    match order_from(alloc, options, run, sink, watch) {
+        Ok(report) => Ok(OrderedLogs {
+            report,
+            machine,
+            lines,
+        }),
+        Err(fault) => {
+            machine.discard();
+            Err(OrderFault::from(fault))
+        }
+    }
 }
 
 /// Reads an input whole, and then does what `order_input` does. The bytes that were read are left in `input`.
@@ -153,10 +147,11 @@ pub fn order_bytes<S: Source, K: Sink, W: Watch>(
     sink: &mut K,
     input: &mut Vec<u8>,
     watch: &mut W,
-) -> Result<OrderReport, OrderFault>
+) -> Result<OrderedLogs, OrderFault>
     requires { (S.failures source.old < u64.MAX) × (K.failures sink.old < u64.MAX) }
-    ensures { let at = streams S.left S.failures S.given K.written K.failures in
+    ensures answers { let at = streams S.left S.failures S.given K.written K.failures in
         ReadsInput of_reading (Answers options) (at source.old sink.old) (at source.new sink.new) result }
+    ensures run { IfOk result (λ r. HasRun input.new.items r.machine) }
 {
     *input = read_all(alloc, source)?;
     order_input(alloc, options, input.as_slice(), sink, watch)

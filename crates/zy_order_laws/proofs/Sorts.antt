@@ -39,7 +39,7 @@ sort_told t = Neither
 pub tells_sort : (t : OutcomePattern) (o : Outcome) → matches t o ≡ true → sort_of o ≡ sort_told t
 tells_sort pattern.Started outcome.Started e = refl
 tells_sort pattern.BadMode outcome.BadMode e = refl
-tells_sort (pattern.Began node) (outcome.Began n) e = refl
+tells_sort (pattern.Began asked) (outcome.Began n) e = refl
 tells_sort pattern.Idle outcome.Idle e = refl
 tells_sort pattern.Elsewhere outcome.Elsewhere e = refl
 tells_sort pattern.NotYet outcome.NotYet e = refl

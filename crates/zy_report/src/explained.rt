@@ -1,10 +1,8 @@
 //! The order that explains the rows of a run, as standard error names it.
 
 use crate::no_effect::tell_number;
-use crate::rerun::{make_again, open_again};
 use std::alloc::Global;
 use std::fmt;
-use zy_engine::{BenchFault, Format, SearchOptions};
 use zy_isa::{Choice, MAX_CHOICES};
 use zy_machine::{Fault, Machine};
 use zy_serial::explaining::explaining_order;
@@ -26,7 +24,7 @@ fn tell_order(rt: &impl Eprint, order: &[CommitRecord]) {
 }
 
 /// Makes choices, as far as the scenario has their transactions and there is room for them.
-pub fn go_on(machine: &mut Machine, choices: &[Choice]) -> Result<(), Fault> {
+fn go_on(machine: &mut Machine, choices: &[Choice]) -> Result<(), Fault> {
     for choice in choices {
         let count = machine.scenario().programs().len();
         if choice.names_below(count) && machine.len() < MAX_CHOICES {
@@ -36,45 +34,14 @@ pub fn go_on(machine: &mut Machine, choices: &[Choice]) -> Result<(), Fault> {
     Ok(())
 }
 
-/// Makes the choices of a scenario again, and says what `explain` says of that run.
-pub fn explain_again<R: Eprint + AllocGlobal>(rt: &R, format: Format, scenario: &[u8]) {
-    if let Ok(machine) = make_again(rt.alloc(), format, scenario) {
-        explain(rt, &machine);
-        machine.discard();
-    }
-}
-
-/// Makes the first choices of a machine's scenario, or all where there are fewer.
-fn go_first(machine: &mut Machine, count: usize) -> Result<(), Fault> {
-    for i in 0..count.min(MAX_CHOICES) {
-        let choice = machine.scenario().choices().get(i).copied();
-        if let Some(choice) = choice {
-            go_on(machine, &[choice])?;
-        }
-    }
-    Ok(())
-}
-
-/// Makes the choices that a search took as steps already taken, and those that it has found, on a machine that has made
-/// none.
-fn go_found(machine: &mut Machine, options: SearchOptions, found: &[Choice]) -> Result<(), Fault> {
-    go_first(machine, options.from.unwrap_or(MAX_CHOICES))?;
-    go_on(machine, found)
-}
-
-/// The machine of a scenario that has made the choices that a search has found.
-pub fn found_again(
-    alloc: Global,
-    options: SearchOptions,
-    scenario: &[u8],
-    found: &[Choice],
-) -> Result<Machine, BenchFault> {
-    let mut machine = open_again(alloc, options.format, scenario)?;
-    match go_found(&mut machine, options, found) {
-        Ok(()) => Ok(machine),
+/// A copy of a machine that has made choices from there.
+pub fn went_from(alloc: Global, machine: &Machine, choices: &[Choice]) -> Result<Machine, Fault> {
+    let mut copy = machine.copy(alloc)?;
+    match go_on(&mut copy, choices) {
+        Ok(()) => Ok(copy),
         Err(fault) => {
-            machine.discard();
-            Err(BenchFault::from(fault))
+            copy.discard();
+            Err(fault)
         }
     }
 }

@@ -1,24 +1,20 @@
 //! How far an order of logs comes, and what the table gives where the next lines do not fit.
 
 use crate::excerpt::Excerpt;
-use crate::explained::go_on;
+use crate::explained::went_from;
 use crate::origin::Origin;
-use crate::rerun::{make_again, scenario_part};
 use crate::summary::Count;
 use std::alloc::{AllocError, Global};
 use std::fmt;
 use zy_diagnostics::line::SourceLine;
 use zy_diagnostics::text::Position;
-use zy_engine::format::split_scenario;
-use zy_engine::{BenchFault, Format};
-use zy_io::{Line, LineBuffer, MAX_INPUT};
+use zy_io::{Line, LineBuffer};
 use zy_isa::{Actor, Choice, MAX_CHOICES};
 use zy_listing::StepLine;
 use zy_logs::{LogLine, Logged, NumberedLine};
 use zy_machine::{Fault, Machine};
 use zy_order::Taken;
-use zy_order_engine::logs_below::read_below;
-use zy_order_engine::{BelowFault, LogFormat, OrderOptions};
+use zy_order_engine::{LogFormat, OrderedLogs};
 use zy_table::Entry;
 
 /// A number of lines of each actor.
@@ -95,40 +91,32 @@ fn counts_in(lines: &[NumberedLine]) -> Counts {
 
 /// The end of an order of prefixes of logs.
 #[derive(Drop)]
-pub struct Furthest {
+pub struct Furthest<'a> {
     /// The machine that has made its choices.
     machine: Machine,
     /// How the lines of the logs are written.
     logs: LogFormat,
     /// The lines of the logs.
-    lines: Vec<NumberedLine>,
+    lines: &'a [NumberedLine],
     /// How many lines of each actor it takes.
     taken: Counts,
 }
 
-impl Furthest {
-    /// The end of the order that makes these choices and takes as many lines, of the logs of an input that is read without a
-    /// fault, where a gap counts for `options.gap` choices.
+impl<'a> Furthest<'a> {
+    /// The end of the order of logs that makes these choices behind those of the scenario.
     pub fn of(
         alloc: Global,
-        options: OrderOptions,
-        input: &[u8],
+        logs: LogFormat,
+        ordered: &'a OrderedLogs,
         order: &[Choice],
-        taken: Taken,
-    ) -> Result<Furthest, BenchFault> {
-        let mut machine = make_again(alloc, Format::Text, scenario_part(input))?;
-        match go_furthest(alloc, options, &mut machine, input, order) {
-            Ok(lines) => Ok(Furthest {
-                machine,
-                logs: options.logs,
-                lines,
-                taken: Counts::taken(taken),
-            }),
-            Err(fault) => {
-                machine.discard();
-                Err(fault)
-            }
-        }
+    ) -> Result<Furthest<'a>, Fault> {
+        let machine = went_from(alloc, &ordered.machine, order)?;
+        Ok(Furthest {
+            machine,
+            logs,
+            lines: &ordered.lines,
+            taken: Counts::taken(ordered.report.taken),
+        })
     }
 
     /// Drops it.
@@ -141,14 +129,14 @@ impl Furthest {
     pub fn reach(&self) -> Reach {
         Reach {
             taken: self.taken,
-            all: counts_in(&self.lines),
+            all: counts_in(self.lines),
         }
     }
 
     /// The first line of an actor that it does not take.
     fn next(&self, actor: Actor) -> Option<NumberedStep> {
         let mut passed = 0usize;
-        for line in &self.lines {
+        for line in self.lines {
             if let Some(step) = step_by(line, actor) {
                 if passed == self.taken.of(actor) {
                     return Some(step);
@@ -171,7 +159,7 @@ impl Furthest {
     /// and the step that comes in its place.
     fn later(&self, machine: &mut Machine) -> Result<Option<(NumberedStep, Entry)>, Fault> {
         let mut passed = 0usize;
-        for line in &self.lines {
+        for line in self.lines {
             if let Some(next) = step_by(line, Actor::C) {
                 if passed < self.taken.c {
                     passed = passed.saturating_add(1);
@@ -268,44 +256,6 @@ fn disagreeing(machine: &mut Machine, line: LogLine) -> Result<Option<Entry>, Fa
         return Ok(None);
     }
     Ok(Some(entry))
-}
-
-/// Makes these choices too on a machine that has made those of an input's scenario, and gives the lines of the logs below it.
-fn go_furthest(
-    alloc: Global,
-    options: OrderOptions,
-    machine: &mut Machine,
-    input: &[u8],
-    order: &[Choice],
-) -> Result<Vec<NumberedLine>, BenchFault> {
-    go_on(machine, order)?;
-    let (text, below) = split_scenario(input);
-    lines_again(alloc, options, machine, text, below)
-}
-
-/// The lines of the logs that are below a machine's scenario.
-fn lines_again(
-    alloc: Global,
-    options: OrderOptions,
-    machine: &Machine,
-    text: &[u8],
-    below: &[u8],
-) -> Result<Vec<NumberedLine>, BenchFault> {
-    if MAX_INPUT < text.len() || MAX_INPUT < below.len() {
-        return Err(BenchFault::TooLong);
-    }
-    match read_below(
-        alloc,
-        options.logs,
-        options.gap,
-        machine.scenario(),
-        text,
-        below,
-    ) {
-        Ok(lines) => Ok(lines),
-        Err(BelowFault::Memory) => Err(BenchFault::Memory),
-        Err(BelowFault::Log(_) | BelowFault::Json(_)) => Ok(Vec::new(alloc)),
-    }
 }
 
 /// A step, as a listing has it.

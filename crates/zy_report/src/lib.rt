@@ -16,6 +16,5 @@ pub mod progress;
 pub mod refused_goal;
 pub mod refused_line;
 pub mod refused_object;
-pub mod rerun;
 pub mod summary;
 pub mod way_out;

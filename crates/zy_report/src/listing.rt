@@ -3,7 +3,10 @@ ghost use Rattle.std.specs.Prelude.{None};
 
 use std::alloc::Global;
 use std::io;
+use zy_engine::BenchFault;
 use zy_io::Sink;
+use zy_listing::listing::write_listing;
+use zy_machine::Machine;
 
 /// Takes a listing, and keeps one of its lines, with its end.
 #[derive(Drop)]
@@ -19,7 +22,7 @@ pub struct LineKept {
 
 impl LineKept {
     /// Keeps the line of this number, from 1.
-    pub fn new(alloc: Global, number: usize) -> LineKept {
+    fn new(alloc: Global, number: usize) -> LineKept {
         LineKept {
             number,
             coming: 1,
@@ -31,11 +34,6 @@ impl LineKept {
     /// The line; empty where the listing has fewer.
     pub fn line(&self) -> &[u8] {
         self.line.as_slice()
-    }
-
-    /// Whether memory for a part of the line was refused.
-    pub fn is_refused(&self) -> bool {
-        self.is_refused
     }
 
     /// Takes a byte.
@@ -59,5 +57,17 @@ impl Sink for LineKept {
             self.take(*byte);
         }
         Ok(bytes.len())
+    }
+}
+
+/// The line of this number of the listing of a machine; empty where the listing has fewer.
+pub fn line_due(alloc: Global, machine: &Machine, number: usize) -> Result<LineKept, BenchFault> {
+    let mut kept = LineKept::new(alloc, number);
+    match write_listing(alloc, machine, &mut kept) {
+        Ok(()) if !kept.is_refused => Ok(kept),
+        _ => {
+            drop(kept);
+            Err(BenchFault::Memory)
+        }
     }
 }

@@ -1,15 +1,15 @@
 -- What the listing left in the sink is the verdict.
-use Rattle.zy_listing.specs.Run.{listing_run}
+use Rattle.zy_listing.specs.Run.{listing_of}
 use Rattle.zy_check.proofs.JudgeLemmas.{judged_whole, judged_prefix}
 use Rattle.zy_check.proofs.check.compare.Goals as goal
 
 pub returns-in-Ok : goal.returns-in-Ok
 returns-in-Ok c =
-    judged_whole c.args.input.now (listing_run c.args.scenario) c.new-sink.result c.write_listing.new.sink c.verdict.result
+    judged_whole c.args.input.now (listing_of c.args.machine.now) c.new-sink.result c.write_listing.new.sink c.verdict.result
     c.new-sink.ensures c.in-Ok.ensures.0 c.verdict.ensures.whole
 
 pub returns-in-Err-Write : goal.returns-in-Err-Write
 returns-in-Err-Write c =
     let wrote = rw c.in-Err-Write.field-0-is at c.in-Err-Write.ensures in
-    judged_prefix c.args.input.now (listing_run c.args.scenario) c.new-sink.result c.write_listing.new.sink c.verdict-in-Err-Write.result
+    judged_prefix c.args.input.now (listing_of c.args.machine.now) c.new-sink.result c.write_listing.new.sink c.verdict-in-Err-Write.result
     c.new-sink.ensures wrote.0 wrote.1 c.verdict-in-Err-Write.ensures.prefix

@@ -1,5 +1,5 @@
 -- The answer is that of the search; where there was no memory for it, nothing went out.
-use Rattle.std.proofs.Common.{◌∙◌, List, None, Ok, Err, inl, refl, subst}
+use Rattle.std.proofs.Common.{◌∙◌, List, inl, refl, subst}
 use Rattle.std.proofs.lemmas.Result.{err_from_is_err_and}
 use Rattle.zy_logs.specs.declared.log_line.LogLine.{LogLine}
 use Rattle.zy_machine.specs.Histories.{History}

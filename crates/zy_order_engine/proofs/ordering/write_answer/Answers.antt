@@ -3,11 +3,12 @@ use Rattle.std.proofs.Common.{[], ◌++◌, refl, subst}
 use Rattle.std.proofs.KnownBytes.{Appends-nil}
 use Rattle.zy_engine.specs.Searching.{IsWorded, WroteSome}
 use Rattle.zy_threads.specs.Orders.{reordered}
-use Rattle.zy_order_engine.proofs.TakenLemmas.{ran_few, ran_all}
+use Rattle.zy_engine.proofs.EndingLemmas.{all_few}
+use Rattle.zy_order_engine.proofs.TakenLemmas.{ran_all}
 use Rattle.zy_order_engine.proofs.ordering.write_answer.Goals as goal
 
 pub write_found-requires-clause-taken : goal.write_found-requires-clause-taken
-write_found-requires-clause-taken g c = ran_few c.args.machine.now c.requires.ran
+write_found-requires-clause-taken g c = all_few c.args.machine.now c.requires.ran
 
 pub returns-in-Found : goal.returns-in-Found
 returns-in-Found g c =
