@@ -28,13 +28,16 @@ PARTS = [
     ('Which steps commute, and which states are alike', 'What the searches rely on.', [],
      ['zy_steps/src/laws.rt', 'zy_state_ids/src/laws.rt', 'zy_step_cache/src/laws.rt']),
     ('Texts, images and listings', 'What `run`, `trace`, `asm`, `dis` and `check` read and write.', [],
-     ['zy_engine/src/engine.rt', 'zy_engine/src/checking.rt', 'zy_first/src/run.rt', 'zy_check/src/laws.rt', 'zy_trace/src/laws.rt']),
+     ['zy_engine/src/engine.rt', 'zy_engine/src/checking.rt', 'zy_first/src/run.rt', 'zy_asm/src/names.rt', 'zy_check/src/laws.rt',
+      'zy_trace/src/laws.rt']),
     ('Threads and the debugger', 'What `threads` and `debug` do.', [],
      ['zy_engine/src/threading.rt', 'zy_engine/src/debugging.rt', 'zy_engine/src/laws.rt', 'zy_threads/src/laws.rt', 'zy_debug_text/src/laws.rt']),
     ('Goals and the search', 'What `search`, `find` and `end` answer, and what the words of a goal mean.', [],
      ['zy_engine/src/searching.rt', 'zy_engine/src/finding.rt', 'zy_engine/src/ending.rt', 'zy_queries/src/reading.rt', 'zy_search/src/search.rt', 'zy_search/src/laws.rt']),
-    ('Logs', 'What lines of logs say, which order fits them, what the logs of a run tell of its migration order, and what `order` does.', [],
+    ('Logs', 'What lines of logs say, which order fits them, what the logs of a run tell of its migration order, that they read a listing, and what `order` does.',
+     [],
      ['zy_logs/src/logs.rt', 'zy_logs/src/log_line.rt', 'zy_logs/src/laws.rt', 'zy_order/src/order.rt', 'zy_order_laws/src/laws.rt',
+      'zy_log_laws/src/laws.rt', 'zy_patterns/src/laws.rt',
       'zy_order_engine/src/ordering.rt', 'zy_order_engine/src/behind.rt', 'zy_order_engine/src/laws.rt', 'zy_json/src/laws.rt']),
 ]
 
