@@ -1,21 +1,12 @@
 //! The words of outcomes and what they stand for, a line for each.
 ghost use Rattle.std.specs.Prelude.{◌≡◌};
-ghost use Rattle.std.specs.Str.{bytes_eq};
 ghost use Rattle.zy_patterns.specs.Vocabulary as spec;
 
 use crate::paged::PagedOutcome;
 use crate::patterns::{OutcomePattern, ReasonPattern};
 use zy_isa::Node;
+pub use zy_isa::operation::is;
 use zy_model::Kind;
-
-/// Whether a word is this text. It is also for the macro, in whichever crate that is used. (`zy_text` has one like it; a search
-/// then waits for no crate of texts.)
-#[inline(always)]
-pub fn is(word: &[u8], text: &[u8]) -> bool
-    ensures { result ≡ bytes_eq word.now text.now }
-{
-    word == text
-}
 
 /// What a word stands for in a table, if it is there.
 #[macro_export]
