@@ -1,80 +1,102 @@
--- Lines whose words begin at fixed places.
-use Rattle.std.proofs.Common.{◌≡◌, ◌==◌, ◌≤◌, ◌∙◌, ◌∷◌, [], ℕ, List, true, false, ap, refl, take, drop, get_or, arith, length, inl, inr}
-use Rattle.std.proofs.lemmas.Bool.{cases_Bool}
-use borrow.Author.Tests.{eqb-true}
+-- Lines that begin with given bytes.
+use Rattle.std.proofs.Common.{◌≡◌, ◌==◌, ◌≤◌, ◌<◌, ◌+◌, ◌-◌, ◌*◌, ◌∙◌, ◌∷◌, ◌++◌, [], ℕ, List, true, false, zero, suc, ap, ap₂, ◌/◌, ◌%◌, sym, refl, take, drop, get_or, arith, length, codes}
+use Rattle.std.proofs.Math.Seq.{drop-cons, take-length}
+use Rattle.std.proofs.lemmas.List.{length-drop}
+use Rattle.std.proofs.lemmas.Fmt.{decimal_digit}
 use Rattle.std.specs.Char.{is_ascii_digit}
+use Rattle.std.specs.Fmt.{decimal}
+use Rattle.zy_io.proofs.DigitLemmas.{decimal_two}
 use Rattle.zy_text.specs.Words.{words_of}
 use Rattle.zy_text.specs.Lines.{first_line, ends_word}
 use Rattle.zy_text.proofs.LineLemmas.{word_taken, words_space, words_lf}
+use borrow.Author.Tests.{tests}
 
--- a word of one sign before a byte that ends it
-one_sign : (a s : ℕ) (bs : List ℕ) → ends_word a ≡ false → ends_word s ≡ true
-    → words_of (first_line (a ∷ s ∷ bs)) ≡ (a ∷ []) ∷ words_of (first_line (s ∷ bs))
-one_sign a s bs e f = word_taken (a ∷ s ∷ bs) ∙ rw (e, f) refl
+-- ---- the first bytes of a text
 
--- a word of two signs before a byte that ends it
-two_signs : (a b s : ℕ) (bs : List ℕ) → ends_word a ≡ false → ends_word b ≡ false → ends_word s ≡ true
-    → words_of (first_line (a ∷ b ∷ s ∷ bs)) ≡ (a ∷ b ∷ []) ∷ words_of (first_line (s ∷ bs))
-two_signs a b s bs e f g = word_taken (a ∷ b ∷ s ∷ bs) ∙ rw (e, f, g) refl
+-- this many bytes of a text from a place on
+abbrev bytes_from : ℕ → ℕ → List ℕ → List ℕ
+bytes_from zero i text = []
+bytes_from (suc n) i text = get_or text i 0 ∷ bytes_from n (suc i) text
 
--- the words behind the first of such a line
-behind : (bs : List ℕ) → words_of (first_line (32 ∷ 114 ∷ 117 ∷ 110 ∷ 32 ∷ bs)) ≡ (114 ∷ 117 ∷ 110 ∷ []) ∷ words_of (first_line bs)
-behind bs = words_space 32 (114 ∷ 117 ∷ 110 ∷ 32 ∷ bs) refl ∙ word_taken (114 ∷ 117 ∷ 110 ∷ 32 ∷ bs)
-    ∙ ap (λ ws. (114 ∷ 117 ∷ 110 ∷ []) ∷ ws) (words_space 32 bs refl)
+-- what is behind a place is the bytes there one by one, and what is behind them
+bytes_behind : (n i : ℕ) (text : List ℕ) → i + n ≤ length text → drop i text ≡ bytes_from n i text ++ drop (i + n) text
+bytes_behind zero i text h = ap (λ k. drop k text) (omega arith)
+bytes_behind (suc n) i text h = drop-cons text i 0 (omega (arith, h)) ∙ ap (λ l. get_or text i 0 ∷ l) (bytes_behind n (suc i) text (omega (arith, h))
+    ∙ ap (λ k. bytes_from n (suc i) text ++ drop k text) (omega arith))
 
--- a byte that is not another fails the test for it
-differs : (b k : ℕ) → (b ≡ k → ⊥) → (b == k) ≡ false
-differs b k h = elim (cases_Bool (b == k)) [ inl e ↦ absurd (h (eqb-true b k e)) | inr e ↦ e ]
+-- what is behind the first bytes, taken by its length, is all of it
+rest_whole : (n : ℕ) (text : List ℕ) → take (length text - n) (drop n text) ≡ drop n text
+rest_whole n text = ap (λ k. take k (drop n text)) (sym (length-drop n text)) ∙ take-length (drop n text)
+
+-- the words of a text's first line
+abbrev line_words : List ℕ → List (List ℕ)
+line_words text = words_of (first_line text)
+
+-- ---- words at the front of a line
+
+node_word : (a : ℕ) (rest : List ℕ) → ends_word a ≡ false → line_words (a ∷ 32 ∷ rest) ≡ (a ∷ []) ∷ line_words rest
+node_word a rest h = (word_taken (a ∷ 32 ∷ rest) ∙ rw h refl) ∙ ap (λ ws. (a ∷ []) ∷ ws) (words_space 32 rest refl)
+
+run_word : (rest : List ℕ) → line_words (codes "run " ++ rest) ≡ codes "run" ∷ line_words rest
+run_word rest = word_taken (codes "run " ++ rest) ∙ ap (λ ws. codes "run" ∷ ws) (words_space 32 rest refl)
+
+begin_word : (rest : List ℕ) → line_words (codes "begin " ++ rest) ≡ codes "begin" ∷ line_words rest
+begin_word rest = word_taken (codes "begin " ++ rest) ∙ ap (λ ws. codes "begin" ∷ ws) (words_space 32 rest refl)
+
+-- the letter of an actor and a space
+pub behind_actor : (a : ℕ) (text : List ℕ) → 2 ≤ length text → ends_word a ≡ false → get_or text 0 0 ≡ a → get_or text 1 0 ≡ 32
+    → line_words text ≡ (a ∷ []) ∷ line_words (take (length text - 2) (drop 2 text))
+behind_actor a text n h e f =
+    let same : text ≡ a ∷ 32 ∷ drop 2 text = bytes_behind 2 0 text n ∙ cc in
+    ap line_words same ∙ node_word a (drop 2 text) h ∙ ap (λ t. (a ∷ []) ∷ line_words t) (sym (rest_whole 2 text))
+
+-- `run` and a space
+pub behind_run : (text : List ℕ) → 4 ≤ length text → get_or text 0 0 ≡ 114 → get_or text 1 0 ≡ 117 → get_or text 2 0 ≡ 110 → get_or text 3 0 ≡ 32
+    → line_words text ≡ codes "run" ∷ line_words (take (length text - 4) (drop 4 text))
+behind_run text n a b c d =
+    let same : text ≡ codes "run " ++ drop 4 text = bytes_behind 4 0 text n ∙ cc in
+    ap line_words same ∙ run_word (drop 4 text) ∙ ap (λ t. codes "run" ∷ line_words t) (sym (rest_whole 4 text))
+
+-- `begin` and a space
+pub behind_begin : (text : List ℕ) → 6 ≤ length text → get_or text 0 0 ≡ 98 → get_or text 1 0 ≡ 101 → get_or text 2 0 ≡ 103 → get_or text 3 0 ≡ 105
+    → get_or text 4 0 ≡ 110 → get_or text 5 0 ≡ 32
+    → line_words text ≡ codes "begin" ∷ line_words (take (length text - 6) (drop 6 text))
+behind_begin text n a b c d e f =
+    let same : text ≡ codes "begin " ++ drop 6 text = bytes_behind 6 0 text n ∙ cc in
+    ap line_words same ∙ begin_word (drop 6 text) ∙ ap (λ t. codes "begin" ∷ line_words t) (sym (rest_whole 6 text))
+
+-- ---- a number at the end of a line
 
 -- a digit ends no word
 digit_in_word : (d : ℕ) → is_ascii_digit d ≡ true → ends_word d ≡ false
-digit_in_word d h = rw (
-  differs d 32 (λ e. cc (h)),
-  differs d 9 (λ e. cc (h)),
-  differs d 13 (λ e. cc (h)),
-  differs d 10 (λ e. cc (h)),
-  differs d 59 (λ e. cc (h)),
-) refl
+digit_in_word d h = grind (arith, tests)
 
--- the words of such a line, if its number has one digit
-line_one : (a d : ℕ) (below : List ℕ) → ends_word a ≡ false → is_ascii_digit d ≡ true
-    → words_of (first_line (a ∷ 32 ∷ 114 ∷ 117 ∷ 110 ∷ 32 ∷ d ∷ 10 ∷ below)) ≡ (a ∷ []) ∷ (114 ∷ 117 ∷ 110 ∷ []) ∷ (d ∷ []) ∷ []
-line_one a d below e h = one_sign a 32 (114 ∷ 117 ∷ 110 ∷ 32 ∷ d ∷ 10 ∷ below) e refl ∙ ap (λ ws. (a ∷ []) ∷ ws) (behind (d ∷ 10 ∷ below)
-    ∙ ap (λ ws. (114 ∷ 117 ∷ 110 ∷ []) ∷ ws) (one_sign d 10 below (digit_in_word d h) refl ∙ ap (λ ws. (d ∷ []) ∷ ws) (words_lf 10 below refl)))
+-- a digit before a line feed
+pub one_digit : (text : List ℕ) → 2 ≤ length text → is_ascii_digit (get_or text 0 0) ≡ true → get_or text 1 0 ≡ 10
+    → line_words text ≡ decimal (get_or text 0 0 - 48) ∷ []
+one_digit text n h e =
+    let d = get_or text 0 0 in
+    let same : text ≡ d ∷ 10 ∷ drop 2 text = bytes_behind 2 0 text n ∙ cc in
+    let low : 48 ≤ d = grind (arith, tests) in
+    let high : d ≤ 57 = grind (arith, tests) in
+    let number : decimal (d - 48) ≡ d ∷ [] = decimal_digit (d - 48) (omega arith) ∙ ap (λ x. x ∷ []) (omega arith) in
+    ap line_words same ∙ word_taken (d ∷ 10 ∷ drop 2 text) ∙ rw (digit_in_word d h, number, words_lf 10 (drop 2 text) refl) refl
 
--- the words of such a line, if its number has two digits
-line_two : (a d f : ℕ) (below : List ℕ) → ends_word a ≡ false → is_ascii_digit d ≡ true → is_ascii_digit f ≡ true
-    → words_of (first_line (a ∷ 32 ∷ 114 ∷ 117 ∷ 110 ∷ 32 ∷ d ∷ f ∷ 10 ∷ below)) ≡ (a ∷ []) ∷ (114 ∷ 117 ∷ 110 ∷ []) ∷ (d ∷ f ∷ []) ∷ []
-line_two a d f below e h k = one_sign a 32 (114 ∷ 117 ∷ 110 ∷ 32 ∷ d ∷ f ∷ 10 ∷ below) e refl ∙ ap (λ ws. (a ∷ []) ∷ ws) (behind (d ∷ f ∷ 10 ∷ below)
-    ∙ ap (λ ws. (114 ∷ 117 ∷ 110 ∷ []) ∷ ws) (two_signs d f 10 below (digit_in_word d h) (digit_in_word f k) refl ∙ ap (λ ws. (d ∷ f ∷ []) ∷ ws) (words_lf 10 below refl)))
-
--- a text that begins with such a line, whose number has one digit
-pub words_one : (text : List ℕ) → 8 ≤ length text → ends_word (get_or text 0 0) ≡ false
-    → get_or text 1 0 ≡ 32 → get_or text 2 0 ≡ 114 → get_or text 3 0 ≡ 117 → get_or text 4 0 ≡ 110 → get_or text 5 0 ≡ 32
-    → is_ascii_digit (get_or text 6 0) ≡ true → get_or text 7 0 ≡ 10
-    → words_of (first_line text) ≡ take 1 text ∷ take 3 (drop 2 text) ∷ take 1 (drop 6 text) ∷ []
-words_one [] n w p q r s t k6 u = absurd (omega (arith, n))
-words_one (a ∷ []) n w p q r s t k6 u = absurd (omega (arith, n))
-words_one (a ∷ b ∷ []) n w p q r s t k6 u = absurd (omega (arith, n))
-words_one (a ∷ b ∷ c ∷ []) n w p q r s t k6 u = absurd (omega (arith, n))
-words_one (a ∷ b ∷ c ∷ d ∷ []) n w p q r s t k6 u = absurd (omega (arith, n))
-words_one (a ∷ b ∷ c ∷ d ∷ e ∷ []) n w p q r s t k6 u = absurd (omega (arith, n))
-words_one (a ∷ b ∷ c ∷ d ∷ e ∷ f ∷ []) n w p q r s t k6 u = absurd (omega (arith, n))
-words_one (a ∷ b ∷ c ∷ d ∷ e ∷ f ∷ g ∷ []) n w p q r s t k6 u = absurd (omega (arith, n))
-words_one (a ∷ b ∷ c ∷ d ∷ e ∷ f ∷ g ∷ h ∷ below) n w p q r s t k6 u = rw (p, q, r, s, t, u) (line_one a g below w k6)
-
--- a text that begins with such a line, whose number has two digits
-pub words_two : (text : List ℕ) → 9 ≤ length text → ends_word (get_or text 0 0) ≡ false
-    → get_or text 1 0 ≡ 32 → get_or text 2 0 ≡ 114 → get_or text 3 0 ≡ 117 → get_or text 4 0 ≡ 110 → get_or text 5 0 ≡ 32
-    → is_ascii_digit (get_or text 6 0) ≡ true → is_ascii_digit (get_or text 7 0) ≡ true → get_or text 8 0 ≡ 10
-    → words_of (first_line text) ≡ take 1 text ∷ take 3 (drop 2 text) ∷ take 2 (drop 6 text) ∷ []
-words_two [] n w p q r s t k6 k7 u = absurd (omega (arith, n))
-words_two (a ∷ []) n w p q r s t k6 k7 u = absurd (omega (arith, n))
-words_two (a ∷ b ∷ []) n w p q r s t k6 k7 u = absurd (omega (arith, n))
-words_two (a ∷ b ∷ c ∷ []) n w p q r s t k6 k7 u = absurd (omega (arith, n))
-words_two (a ∷ b ∷ c ∷ d ∷ []) n w p q r s t k6 k7 u = absurd (omega (arith, n))
-words_two (a ∷ b ∷ c ∷ d ∷ e ∷ []) n w p q r s t k6 k7 u = absurd (omega (arith, n))
-words_two (a ∷ b ∷ c ∷ d ∷ e ∷ f ∷ []) n w p q r s t k6 k7 u = absurd (omega (arith, n))
-words_two (a ∷ b ∷ c ∷ d ∷ e ∷ f ∷ g ∷ []) n w p q r s t k6 k7 u = absurd (omega (arith, n))
-words_two (a ∷ b ∷ c ∷ d ∷ e ∷ f ∷ g ∷ h ∷ []) n w p q r s t k6 k7 u = absurd (omega (arith, n))
-words_two (a ∷ b ∷ c ∷ d ∷ e ∷ f ∷ g ∷ h ∷ i ∷ below) n w p q r s t k6 k7 u = rw (p, q, r, s, t, u) (line_two a g h below w k6 k7)
+-- two digits before a line feed, the first not 0
+pub two_digits : (text : List ℕ) → 3 ≤ length text → is_ascii_digit (get_or text 0 0) ≡ true → (get_or text 0 0 ≡ 48 → ⊥)
+    → is_ascii_digit (get_or text 1 0) ≡ true → get_or text 2 0 ≡ 10
+    → line_words text ≡ decimal (10 * (get_or text 0 0 - 48) + (get_or text 1 0 - 48)) ∷ []
+two_digits text n h some k e =
+    let t = get_or text 0 0 in
+    let o = get_or text 1 0 in
+    let same : text ≡ t ∷ o ∷ 10 ∷ drop 3 text = bytes_behind 3 0 text n ∙ cc in
+    let low : 48 ≤ t = grind (arith, tests) in
+    let high : t ≤ 57 = grind (arith, tests) in
+    let under : o ≤ 57 = grind (arith, tests) in
+    let over : 48 ≤ o = grind (arith, tests) in
+    let more : 49 ≤ t = grind (arith, some) in
+    let value = 10 * (t - 48) + (o - 48) in
+    let tens : 48 + value / 10 ≡ t = omega arith in
+    let ones : 48 + value % 10 ≡ o = omega arith in
+    let number : decimal value ≡ t ∷ o ∷ [] = decimal_two value (omega arith) (omega arith) ∙ ap₂ (λ x y. x ∷ y ∷ []) tens ones in
+    ap line_words same ∙ word_taken (t ∷ o ∷ 10 ∷ drop 3 text) ∙ rw (digit_in_word t h, digit_in_word o k, number, words_lf 10 (drop 3 text) refl) refl
