@@ -1,17 +1,11 @@
 -- The canonical text means its scenario.
-use Rattle.std.proofs.Common.{◌≡◌, ℕ, ◌+◌, ◌-◌, ◌*◌, ◌^◌, ◌<◌, ◌≤◌, Bool, true, false, not, ◌&&◌, ◌==◌, nat_le, List, [], ◌∷◌, ◌++◌, length, map}
-use Rattle.std.proofs.Common.{filter, Some, None, refl, sym, ap, subst, arith, rules, append_assoc, append-nil, lit<, codes, inl, inr}
+use Rattle.std.proofs.Common.{◌≡◌, ℕ, ◌+◌, ◌^◌, ◌<◌, ◌≤◌, true, ◌&&◌, List, [], ◌∷◌, ◌++◌, length, map}
+use Rattle.std.proofs.Common.{Some, None, refl, sym, ap, subst, arith, append_assoc, append-nil, codes, inl, inr}
 use Rattle.std.specs.Fmt.{decimal}
-use Rattle.std.specs.List.{flat_map, slice_split, prefix_len}
-use Rattle.std.specs.Str.{all_ascii_digits}
-use Rattle.std.specs.Char.{is_ascii_digit}
-use Rattle.std.proofs.lemmas.Str.Parse.{IsNumeralModel, numerals_by_fold}
-use Rattle.std.proofs.lemmas.Fmt.{digits_decimal, digits_value-decimal, length-decimal-le, decimal_nonempty}
+use Rattle.std.specs.List.{flat_map}
 use Rattle.zy_isa.specs.declared.version.Version.TheVariants.{One, Two}
 use Rattle.zy_isa.specs.declared.version.Version.{Version}
 use Rattle.zy_isa.specs.Versions.{word as version_word}
-use Rattle.zy_isa.specs.declared.node.Node.{Node}
-use Rattle.zy_isa.specs.declared.node.Node.TheVariants.{A, B}
 use Rattle.zy_isa.specs.declared.rule.Rule.{Rule}
 use Rattle.zy_isa.specs.declared.rule.Rule.TheVariants.{Held, Loose}
 use Rattle.zy_isa.specs.declared.row.Row.{Row}
@@ -24,9 +18,9 @@ use Rattle.zy_isa.specs.declared.operation.Parts.{Parts}
 use Rattle.zy_isa.specs.declared.operation.Parts.TheVariants.{Number, Pair, Jump, Lone}
 use Rattle.zy_isa.specs.declared.choice.Choice.{Choice}
 use Rattle.zy_isa.specs.declared.choice.Choice.TheVariants.{Start, Begin, Kill, Run, Take, Finish, Push}
-use Rattle.zy_text.specs.Words.{is_space, is_word, without_comment, lines_of, has_words, lines_with_words, number_of, digits_after, spaced}
+use Rattle.zy_text.specs.Words.{is_word, has_words, lines_with_words, spaced}
 use Rattle.zy_isa.specs.Operations.{mnemonic, parts_of}
-use Rattle.zy_text.specs.Canon.{node_text, rule_text, reg_text, parts_words, instr_words, choice_words, row_words, program_words, canon_words, canon}
+use Rattle.zy_text.specs.Canon.{rule_text, reg_text, parts_words, instr_words, choice_words, row_words, program_words, canon_words, canon}
 use Rattle.zy_isa.specs.Rows.{RowsFit}
 use Rattle.zy_isa.specs.Programs.{PartsFit, HasValue, Values}
 use Rattle.zy_isa.specs.Choices.{names_below}
@@ -37,153 +31,11 @@ use Rattle.zy_text.specs.Text.{Code, Written, Times, Draft, Statement, SpellsPar
 use Rattle.zy_text.specs.Text.{names_of, Headed, Labelled, IsDraftOf, program_statements, repeated, statements, Means}
 use Rattle.zy_isa.proofs.OperationLemmas.{each}
 use Rattle.zy_isa.proofs.ResultLemmas.{both}
-use Rattle.zy_text.proofs.CanonCut.{not_true, text_of, under}
-use Rattle.zy_text.proofs.FeedLemmas.{one_plus}
+use Rattle.zy_text.proofs.CanonCut.{text_of, under}
+use Rattle.zy_text.proofs.WordLemmas.{is_clean, are_clean, split_spaced, text_spaced, uncommented, first_of_text, some_length}
+use Rattle.zy_text.proofs.WordLemmas.{number_of-decimal, number_clean, number_last, clean_choice}
 use Rattle.zy_asm.proofs.SpellLemmas.{no_name}
 use Rattle.zy_asm.proofs.GivesLemmas.{numeral_ok}
-use borrow.Author.Tests.{tests}
-
--- a byte that may be in a word
-abbrev is_plain : ℕ → Bool
-is_plain b = not (is_space b) && not (b == 59) && not (b == 10)
-
--- each byte of a word may be in a word
-abbrev is_clean : List ℕ → Bool
-is_clean [] = true
-is_clean (b ∷ bs) = is_plain b && is_clean bs
-
--- words that have a byte, all plain
-abbrev are_clean : List (List ℕ) → Bool
-are_clean [] = true
-are_clean (w ∷ ws) = is_word w && is_clean w && are_clean ws
-
--- a byte that may be in a word is neither a space nor a semicolon nor a line feed
-plain_parts : (b : ℕ) → is_plain b ≡ true → (is_space b ≡ false) × ((b == 59) ≡ false) × ((b == 10) ≡ false)
-plain_parts b h =
-    let p = both (not (is_space b) && not (b == 59)) (not (b == 10)) h in
-    let q = both (not (is_space b)) (not (b == 59)) p.0 in
-    (not_true _ q.0, not_true _ q.1, not_true _ p.1)
-
--- a clean word and a space in front of a text are one part more, the first
-split_word : (w rest : List ℕ) → is_clean w ≡ true → slice_split is_space (w ++ 32 ∷ rest) ≡ w ∷ slice_split is_space rest
-split_word [] rest h = refl
-split_word (b ∷ bs) rest h =
-    let p = both (is_plain b) (is_clean bs) h in
-    rw ((plain_parts b p.0).0, split_word bs rest p.1) refl
-
--- a clean word alone is one part
-split_last : (w : List ℕ) → is_clean w ≡ true → slice_split is_space w ≡ w ∷ []
-split_last [] h = refl
-split_last (b ∷ bs) h =
-    let p = both (is_plain b) (is_clean bs) h in
-    rw ((plain_parts b p.0).0, split_last bs p.1) refl
-
--- the words of spaced words
-split_spaced : (ws : List (List ℕ)) → are_clean ws ≡ true → filter is_word (slice_split is_space (spaced ws)) ≡ ws
-split_spaced [] h = refl
-split_spaced (w ∷ []) h =
-    let p = both (is_word w && is_clean w) true h in
-    let q = both (is_word w) (is_clean w) p.0 in
-    rw (split_last w q.1, q.0) refl
-split_spaced (w ∷ v ∷ ws) h =
-    let p = both (is_word w && is_clean w) (are_clean (v ∷ ws)) h in
-    let q = both (is_word w) (is_clean w) p.0 in
-    rw (split_word w (spaced (v ∷ ws)) q.1, q.0, split_spaced (v ∷ ws) p.1) refl
-
--- no comment, and one line
-abbrev is_text : List ℕ → Bool
-is_text [] = true
-is_text (b ∷ bs) = not (b == 59) && not (b == 10) && is_text bs
-
--- a clean word in front of a text without a comment and a line feed leaves it such a text
-text_append : (xs ys : List ℕ) → is_clean xs ≡ true → is_text ys ≡ true → is_text (xs ++ ys) ≡ true
-text_append [] ys h k = k
-text_append (b ∷ bs) ys h k =
-    let p = both (is_plain b) (is_clean bs) h in
-    let q = plain_parts b p.0 in
-    rw (q.1, q.2, text_append bs ys p.1 k) refl
-
--- clean words with one space between them are a text without a comment and a line feed
-text_spaced : (ws : List (List ℕ)) → are_clean ws ≡ true → is_text (spaced ws) ≡ true
-text_spaced [] h = refl
-text_spaced (w ∷ []) h =
-    let p = both (is_word w && is_clean w) true h in
-    subst (λ x. is_text x ≡ true) (append-nil w) (text_append w [] (both (is_word w) (is_clean w) p.0).1 refl)
-text_spaced (w ∷ v ∷ ws) h =
-    let p = both (is_word w && is_clean w) (are_clean (v ∷ ws)) h in
-    text_append w (32 ∷ spaced (v ∷ ws)) (both (is_word w) (is_clean w) p.0).1 (text_spaced (v ∷ ws) p.1)
-
--- the first byte of such a text is neither a semicolon nor a line feed, and the rest is such a text
-text_parts : (b : ℕ) (bs : List ℕ) → is_text (b ∷ bs) ≡ true → ((b == 59) ≡ false) × ((b == 10) ≡ false) × (is_text bs ≡ true)
-text_parts b bs h =
-    let p = both (not (b == 59) && not (b == 10)) (is_text bs) h in
-    let q = both (not (b == 59)) (not (b == 10)) p.0 in
-    (not_true _ q.0, not_true _ q.1, p.1)
-
--- such a text is whole before its comment
-uncommented : (xs : List ℕ) → is_text xs ≡ true → without_comment xs ≡ xs
-uncommented [] h = refl
-uncommented (b ∷ bs) h = let p = text_parts b bs h in rw (p.0, one_plus (prefix_len (λ c. not (c == 59)) bs)) (ap (λ l. b ∷ l) (uncommented bs p.2))
-
--- such a text up to a line feed is the first line, and the others are those behind that line feed
-first_of_text : (xs rest : List ℕ) → is_text xs ≡ true → lines_of (xs ++ 10 ∷ rest) ≡ xs ∷ lines_of rest
-first_of_text [] rest h = refl
-first_of_text (b ∷ bs) rest h = let p = text_parts b bs h in rw (p.1, first_of_text bs rest p.2) refl
-
--- ---- numbers
-
--- the number that digits spell behind the number n, without a test
-abbrev read_on : ℕ → List ℕ → ℕ
-read_on n [] = n
-read_on n (c ∷ cs) = read_on (10 * n + (c - 48)) cs
-
--- to read digits from left to right is a way to read numerals
-own : IsNumeralModel (λ ds. all_ascii_digits ds ≡ true) (read_on 0)
-own = numerals_by_fold _ (search rules) read_on (search rules)
-
--- a digit may be in a word
-digit_plain : (d : ℕ) → is_ascii_digit d ≡ true → is_plain d ≡ true
-digit_plain d h = grind (arith, tests)
-
--- digits may be in a word
-digits_clean : (ds : List ℕ) → all_ascii_digits ds ≡ true → is_clean ds ≡ true
-digits_clean [] h = refl
-digits_clean (d ∷ ds) h = let p = both (is_ascii_digit d) (all_ascii_digits ds) h in rw (digit_plain d p.0, digits_clean ds p.1) refl
-
--- digits behind the number n spell a number, which is the one read without a test
-digits_read : (n : ℕ) (ds : List ℕ) → all_ascii_digits ds ≡ true → digits_after n ds ≡ Some (read_on n ds)
-digits_read n [] h = refl
-digits_read n (d ∷ ds) h = let p = both (is_ascii_digit d) (all_ascii_digits ds) h in rw (p.0, digits_read (10 * n + (d - 48)) ds p.1) refl
-
--- what has a byte is a word
-some_length : (xs : List ℕ) → 0 < length xs → is_word xs ≡ true
-some_length xs h = some (length xs) h
-  where
-    some : (n : ℕ) → 0 < n → not (n == 0) ≡ true
-    some n k = grind (arith, tests)
-
--- the decimal digits of a number of 32 bits spell this number
-number_of-decimal : (n : ℕ) → n < 2 ^ 32 → number_of (decimal n) ≡ Some n
-number_of-decimal n h =
-    let wide : n < 2 ^ 64 = omega arith in
-    let few : length (decimal n) ≤ 10 = length-decimal-le 10 n (lit< tt) (omega arith) wide in
-    rw (
-      some_length (decimal n) (decimal_nonempty n wide),
-      small (length (decimal n)) few,
-      digits_read 0 (decimal n) (digits_decimal own n wide),
-      digits_value-decimal own n wide,
-    ) refl
-  where
-    small : (k : ℕ) → k ≤ 10 → nat_le k 10 ≡ true
-    small k e = grind (arith, tests)
-
--- ---- the canonical text
-
--- the decimal digits of a number of 32 bits are a clean word
-number_clean : (n : ℕ) → n < 2 ^ 32 → (is_word (decimal n) ≡ true) × (is_clean (decimal n) ≡ true)
-number_clean n h =
-    let wide : n < 2 ^ 64 = omega arith in
-    (some_length (decimal n) (decimal_nonempty n wide), digits_clean (decimal n) (digits_decimal own n wide))
 
 -- ---- each line is spelled
 
@@ -320,11 +172,6 @@ reg_clean R5 = (refl, refl)
 reg_clean R6 = (refl, refl)
 reg_clean R7 = (refl, refl)
 
--- the letter of a node is a clean word
-node_clean : (n : Node) → (is_word (node_text n) ≡ true) × (is_clean (node_text n) ≡ true)
-node_clean A = (refl, refl)
-node_clean B = (refl, refl)
-
 -- the words of the line of the rule are clean
 rule_clean : (r : Rule) → are_clean (codes "rule" ∷ rule_text r ∷ []) ≡ true
 rule_clean Held = refl
@@ -333,11 +180,6 @@ rule_clean Loose = refl
 -- a first word and two more, of which the last is a number
 pair_clean : (w : List ℕ) (a b : Reg) → is_word w ≡ true → is_clean w ≡ true → are_clean (w ∷ reg_text a ∷ reg_text b ∷ []) ≡ true
 pair_clean w a b h g = rw (h, g, (reg_clean a).0, (reg_clean a).1, (reg_clean b).0, (reg_clean b).1) refl
-
--- two clean words and a number are clean
-number_last : (w v : List ℕ) (n : ℕ) → n < 2 ^ 32 → is_word w ≡ true → is_clean w ≡ true → is_word v ≡ true → is_clean v ≡ true
-    → are_clean (w ∷ v ∷ decimal n ∷ []) ≡ true
-number_last w v n few h g i j = let p = number_clean n few in rw (h, g, i, j, p.0, p.1) refl
 
 -- the target `@N` of a jump is a clean word
 target_clean : (n : ℕ) → n < 2 ^ 32 → (is_word (64 ∷ decimal n) ≡ true) × (is_clean (64 ∷ decimal n) ≡ true)
@@ -391,20 +233,6 @@ clean_programs (p ∷ ps) k few h = (
   refl,
   AreClean-append (map instr_words p) (program_words (k + 1) ps) (clean_instrs p h.0.values) (clean_programs ps (k + 1) (omega arith) h.1),
 )
-
--- the letter of a node and a clean word are clean
-plain_clean : (n : Node) (w : List ℕ) → is_word w ≡ true → is_clean w ≡ true → are_clean (node_text n ∷ w ∷ []) ≡ true
-plain_clean n w h g = rw ((node_clean n).0, (node_clean n).1, h, g) refl
-
--- the words of a choice whose transaction is among at most 64 are clean, and there is one at least
-clean_choice : (c : Choice) (count : ℕ) → count ≤ 64 → names_below count c ≡ true → (are_clean (choice_words c) ≡ true) × (has_words (choice_words c) ≡ true)
-clean_choice Start count few h = (refl, refl)
-clean_choice (Begin t) count few h = (number_last (codes "C") (codes "begin") t (under t count few h) refl refl refl refl, refl)
-clean_choice (Kill t) count few h = (number_last (codes "C") (codes "kill") t (under t count few h) refl refl refl refl, refl)
-clean_choice (Run n t) count few h = (number_last (node_text n) (codes "run") t (under t count few h) (node_clean n).0 (node_clean n).1 refl refl, refl)
-clean_choice (Take n) count few h = (plain_clean n (codes "take") refl refl, refl)
-clean_choice (Finish n) count few h = (plain_clean n (codes "finish") refl refl, refl)
-clean_choice (Push n) count few h = (plain_clean n (codes "push") refl refl, refl)
 
 -- the lines of choices whose transactions are among at most 64 are clean
 clean_choices : (cs : List Choice) (count : ℕ) → count ≤ 64 → AreNamed count cs → AreClean (map choice_words cs)

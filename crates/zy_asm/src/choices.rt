@@ -140,37 +140,6 @@ pub fn transaction(count: usize, names: &NameTable, word: &[u8]) -> Result<u8, R
     }
 }
 
-/// The choice of an actor's action that names no transaction.
-#[inline(always)]
-pub fn plain_choice(actor: Actor, action: &[u8]) -> Option<Choice>
-    ensures { IfSome result (λ c. spec.action_of actor action.now ≡ Some (Plain c)) }
-{
-    match action_of(actor, action) {
-        Some(Action::Plain(choice)) => Some(choice),
-        _ => None,
-    }
-}
-
-/// The choice of an actor's action with a transaction by its number, where there are `count`.
-#[inline(always)]
-pub fn numbered_choice(actor: Actor, action: &[u8], count: usize, word: &[u8]) -> Option<Choice>
-    requires { count ≤ max_txns }
-    ensures { IfSome result (λ c. (a : AnAction) × (i : ℕ) × (spec.action_of actor action.now ≡ Some (Txn a))
-        × (text.is_numeral word.now ≡ true) × (spec.numbered count word.now ≡ Ok i) × (c ≡ spec.chosen a i)) }
-{
-    let Some(Action::Txn(action)) = action_of(actor, action) else {
-        return None;
-    };
-    if !is_numeral(word) {
-        return None;
-    }
-    let number = number_of(word)?;
-    if number >= count as u64 {
-        return None;
-    }
-    Some(chosen(action, number as u8))
-}
-
 /// Whether these words are `x` and another one, or none.
 pub fn are_times(words: &[&[u8]]) -> bool
     ensures { result ≡ spec.are_times (texts words.now) }

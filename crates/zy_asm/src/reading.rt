@@ -84,15 +84,7 @@ impl Reader {
     fn line(&mut self, words: &[&[u8]]) -> Result<(), Reason>
         ensures { Steps result (progress_of self.new) (line_step (progress_of self.old) (texts words.now)) }
     {
-        if let [first, second] = words {
-            if let Some(choice) = self.usual_plain(first, second) {
-                return self.add_choice(choice);
-            }
-        }
         if let [first, second, third] = words {
-            if let Some(choice) = self.usual_choice(first, second, third) {
-                return self.add_choice(choice);
-            }
             if let Some(instr) = self.usual_instr(first, second, third) {
                 self.instrs
                     .push(Unresolved::Whole(instr))

@@ -20,7 +20,7 @@ use Rattle.zy_logs.specs.Possible.{can_give}
 use Rattle.zy_logs.specs.Words.{after}
 use Rattle.zy_logs.proofs.FullLemmas.{outcome_given, step_given}
 use Rattle.zy_logs.proofs.PossibleSteps.{step_exactly}
-use Rattle.zy_logs.proofs.WordLemmas.{words_spaced}
+use Rattle.zy_text.proofs.WordLemmas.{words_spaced}
 use Rattle.zy_log_laws.specs.ReadBack.{AreReadBack, HaveNumbers}
 use Rattle.zy_log_laws.proofs.TextLemmas.{outcome_spaced, outcome_clean, step_spaced, step_clean}
 

@@ -19,7 +19,7 @@ use Rattle.zy_text.specs.Canon.{choice_words}
 use Rattle.zy_text.specs.Words.{is_word, has_words, spaced}
 use Rattle.zy_listing.specs.Texts.{why_text, kind_text, outcome_text, sent_text, step_text}
 use Rattle.zy_logs.specs.InFull.{IsPage, HasPage, IsTold, reason_words, outcome_words, kind_word, sent_words, step_words}
-use Rattle.zy_logs.proofs.WordLemmas.{is_clean, are_clean, number_clean, clean_choice}
+use Rattle.zy_text.proofs.WordLemmas.{is_clean, are_clean, number_clean, clean_choice}
 
 -- ---- words with a space between them
 

@@ -42,7 +42,7 @@ use Rattle.zy_logs.specs.Parts.{or_none, number, page, place, numbered, txn, nod
 use Rattle.zy_logs.specs.Lines as line
 use Rattle.zy_logs.specs.Lines.{split, outcome_of, choice_of, possible, told_of, logged, message, sent_of, whole, gap_or_step, placed, line_of}
 use Rattle.zy_logs.specs.Possible.{can_give}
-use Rattle.zy_logs.proofs.WordLemmas.{number_of-decimal, digits_of, decimal_some}
+use Rattle.zy_text.proofs.WordLemmas.{number_of-decimal, digits_of, decimal_some}
 
 -- opens the definitions of what words begin with
 unfoldable open_all : ℕ

@@ -1,5 +1,4 @@
 pub mod NamedLemmas
 pub mod PossibleSteps
 pub mod Worked
-pub mod WordLemmas
 pub mod FullLemmas

@@ -6,3 +6,4 @@ pub mod PlaceLemmas
 mod UsualLemmas
 pub mod CutLemmas
 pub mod CanonCut
+pub mod WordLemmas

@@ -1,5 +1,5 @@
 -- Lines that begin with given bytes.
-use Rattle.std.proofs.Common.{◌≡◌, ◌==◌, ◌≤◌, ◌<◌, ◌+◌, ◌-◌, ◌*◌, ◌∙◌, ◌∷◌, ◌++◌, [], ℕ, List, true, false, zero, suc, ap, ap₂, ◌/◌, ◌%◌, sym, refl, take, drop, get_or, arith, length, codes}
+use Rattle.std.proofs.Common.{◌≡◌, ◌≤◌, ◌+◌, ◌-◌, ◌*◌, ◌∙◌, ◌∷◌, ◌++◌, [], ℕ, List, true, false, zero, suc, ap, ap₂, ◌/◌, ◌%◌, sym, refl, take, drop, get_or, arith, length, codes}
 use Rattle.std.proofs.Math.Seq.{drop-cons, take-length}
 use Rattle.std.proofs.lemmas.List.{length-drop}
 use Rattle.std.proofs.lemmas.Fmt.{decimal_digit}

@@ -1,5 +1,5 @@
 -- The word `begin` and a space are in front of the number.
-use Rattle.std.proofs.Common.{rules, ◌≡◌, ◌∙◌, ◌∷◌, ap, codes}
+use Rattle.std.proofs.Common.{rules, ◌∙◌, ◌∷◌, ap, codes}
 use Rattle.zy_text.proofs.UsualLemmas.{behind_begin}
 use Rattle.zy_text.proofs.usual.client_line.Goals as goal
 

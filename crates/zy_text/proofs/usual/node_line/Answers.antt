@@ -1,5 +1,5 @@
 -- The word `run` and a space are in front of the number.
-use Rattle.std.proofs.Common.{rules, ◌≡◌, ◌∙◌, ◌∷◌, ap, codes}
+use Rattle.std.proofs.Common.{rules, ◌∙◌, ◌∷◌, ap, codes}
 use Rattle.zy_text.specs.Canon.{node_text}
 use Rattle.zy_text.proofs.UsualLemmas.{behind_run}
 use Rattle.zy_text.proofs.usual.node_line.Goals as goal

@@ -182,7 +182,8 @@ plain_clean : (n : Node) (w : List ℕ) → is_word w ≡ true → is_clean w �
 plain_clean n w h g = rw ((node_clean n).0, (node_clean n).1, h, g) refl
 
 -- the words of a choice whose transaction is among at most 64 are clean, and there is one at least
-pub clean_choice : (c : Choice) (count : ℕ) → count ≤ 64 → names_below count c ≡ true → (are_clean (choice_words c) ≡ true) × (has_words (choice_words c) ≡ true)
+pub clean_choice : (c : Choice) (count : ℕ) → count ≤ 64 → names_below count c ≡ true
+    → (are_clean (choice_words c) ≡ true) × (has_words (choice_words c) ≡ true)
 clean_choice Start count few h = (refl, refl)
 clean_choice (Begin t) count few h = (number_last (codes "C") (codes "begin") t (under t count few h) refl refl refl refl, refl)
 clean_choice (Kill t) count few h = (number_last (codes "C") (codes "kill") t (under t count few h) refl refl refl refl, refl)
