@@ -24,7 +24,8 @@ use Rattle.zy_logs.specs.declared.logs.NumberedLine.{NumberedLine}
 use Rattle.zy_patterns.specs.declared.patterns.OutcomePattern.{OutcomePattern}
 use Rattle.zy_logs.specs.declared.txns.Txns.{Txns}
 use Rattle.zy_logs.specs.Words.{Word, Read, first, after, are_none, begin_with, refused, gives, made}
-use Rattle.zy_logs.specs.Txns.{below, place}
+use Rattle.zy_logs.specs.Txns.{below}
+use Rattle.zy_text.specs.Names.{place_among}
 use Rattle.zy_logs.specs.Parts.{txn}
 use Rattle.zy_logs.specs.Lines.{client_choice, node_choice, choice_of, told_of, sent_of, whole, whose, gap_end, gap, gap_or_step, placed, line_of}
 use Rattle.zy_logs.specs.Logs.{in_line, steps_of, steps_in, fitting, line_at, listed, joined, lines_from, logs_of, choices_of}
@@ -59,7 +60,7 @@ below_place count ws (Some n) = elim (cases_Bool (nat_lt n count)) [ inl e ↦ r
 -- by either
 below_txn : (txns : Txns) (ws : List Word) → Below txns.count (txn txns ws)
 below_txn txns ws =
-    let named = below_place txns.count ws (place txns.names.now (first ws)) in
+    let named = below_place txns.count ws (place_among txns.names.now (first ws)) in
     below_either txns.count (is_numeral (first ws)) _ _ (below_digits txns.count ws (number_of (first ws)))
     (below_either txns.count (is_name (first ws)) _ _ named tt)
 

@@ -12,7 +12,7 @@ use Rattle.zy_logs.specs.declared.log_line.Logged.TheVariants.{Step, Gap}
 use Rattle.zy_patterns.specs.declared.patterns.ReasonPattern.TheVariants as reason
 use Rattle.zy_patterns.specs.declared.patterns.OutcomePattern.TheVariants as pattern
 use Rattle.zy_logs.specs.declared.txns.Txns.{Txns}
-use Rattle.zy_logs.specs.Txns.{place}
+use Rattle.zy_text.specs.Names.{place_among}
 use Rattle.zy_patterns.specs.Vocabulary as word
 use Rattle.zy_patterns.specs.Patterns.{matches}
 use Rattle.zy_logs.specs.InFull.{step_words}
@@ -75,7 +75,7 @@ module _ (txns : Txns) where
   begins one = rw one refl
 
   -- and by its name; the number of the commit is left out
-  commits : txns.count ≡ 1 → place txns.names.now (codes "transfer") ≡ Some 0 → line_of txns (words_of (codes "A run transfer -> committed"))
+  commits : txns.count ≡ 1 → place_among txns.names.now (codes "transfer") ≡ Some 0 → line_of txns (words_of (codes "A run transfer -> committed"))
       ≡ Ok (Step (record { choice = Run A 0; told = Some (pattern.Committed None); sent = None }))
   unfolding open_all
   commits one known = rw (known, one) refl

@@ -3,7 +3,7 @@ ghost use Rattle.std.specs.Prelude.{◌≡◌, ◌≤◌};
 ghost use Rattle.zy_isa.specs.Limits.{max_txns};
 ghost use Rattle.zy_logs.specs.Txns as spec;
 
-use zy_text::names::is;
+use zy_text::names::place_among;
 
 /// The transactions of a scenario: how many there are, and the name of each, at its number; empty where it has none.
 #[derive(Clone, Copy)]
@@ -12,20 +12,13 @@ pub struct Txns<'a> {
     pub names: &'a [&'a [u8]],
 }
 
-/// Where a name stands among names.
-fn place(names: &[&[u8]], name: &[u8]) -> Option<usize>
-    ensures { result ≡ spec.place names.now name.now }
-{
-    names.iter().position(|other| is(other, name))
-}
-
 impl Txns<'_> {
     /// The number of the transaction that has this name, which is not empty.
     pub(crate) fn named(self, name: &[u8]) -> Option<u8>
         requires { self.count ≤ max_txns }
         ensures { result ≡ spec.named self.entry name.now }
     {
-        match place(self.names, name) {
+        match place_among(self.names, name) {
             Some(number) if number < self.count => Some(number as u8),
             _ => None,
         }

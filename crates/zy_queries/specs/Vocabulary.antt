@@ -1,7 +1,6 @@
 -- The words of goals that stand for something by themselves.
-use Rattle.std.specs.Prelude.{ℕ, ◌||◌, ◌&&◌, not, nat_le, Bool, List, codes, Option, Some, None, option_map, position}
+use Rattle.std.specs.Prelude.{ℕ, ◌||◌, ◌&&◌, not, nat_le, Bool, codes, Option, Some, None, option_map}
 use Rattle.std.specs.Prelude.{if◌then◌else◌}
-use Rattle.std.specs.Borrow.{Bor}
 use Rattle.std.specs.Option.{option_and_then}
 use Rattle.std.specs.Str.{bytes_eq}
 use Rattle.zy_isa.specs.declared.node.Node.{Node}
@@ -119,14 +118,10 @@ place_in_order w = number_to 64 w
 abbrev pub max_txn : ℕ
 max_txn = 63
 
--- where a name stands among names
-abbrev pub place : List (Bor Word) → Word → Option ℕ
-place names w = position (λ n. bytes_eq n.now w) names
-
 -- The number of the transaction that has this name. Where the names are not known yet, each stands for transaction 0.
 unfoldable pub named : Names → Word → Option ℕ
 named Unknown w = Some 0
-named (Known names) w = option_and_then (at_most max_txn) (place names.now w)
+named (Known names) w = option_and_then (at_most max_txn) (text_names.place_among names.now w)
 
 -- a name; `any` and `all` are none
 abbrev pub is_name : Word → Bool

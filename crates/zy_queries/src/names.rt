@@ -2,7 +2,7 @@
 ghost use Rattle.std.specs.Prelude.{◌≡◌};
 ghost use Rattle.zy_queries.specs.Vocabulary as spec;
 
-use zy_text::names::is;
+use zy_text::names::place_among;
 
 /// The greatest number of a transaction: one below `zy_isa::MAX_TXNS`.
 pub(crate) const MAX_TXN: u8 = 63;
@@ -16,13 +16,6 @@ pub enum Names<'a> {
     Known(&'a [&'a [u8]]),
 }
 
-/// Where a name stands among names.
-fn place(names: &[&[u8]], name: &[u8]) -> Option<usize>
-    ensures { result ≡ spec.place names.now name.now }
-{
-    names.iter().position(|other| is(other, name))
-}
-
 impl Names<'_> {
     /// The number of the transaction that has this name, which is not empty.
     #[tactic(auto, unfolding(crate::specs::Vocabulary::named))]
@@ -31,7 +24,7 @@ impl Names<'_> {
     {
         match self {
             Names::Unknown => Some(0),
-            Names::Known(names) => match place(names, name) {
+            Names::Known(names) => match place_among(names, name) {
                 Some(number) if number <= usize::from(MAX_TXN) => Some(number as u8),
                 _ => None,
             },

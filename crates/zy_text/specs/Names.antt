@@ -1,6 +1,7 @@
 -- Names of transactions and labels, and what they stand for.
 use Rattle.std.specs.Prelude.{◌≡◌, ◌==◌, ◌||◌, ◌&&◌, ◌++◌, nat_le, ℕ, List, [], ◌∷◌, length, Bool, false, Option, Some}
-use Rattle.std.specs.Prelude.{None, option_map, if◌then◌else◌}
+use Rattle.std.specs.Prelude.{None, option_map, position, if◌then◌else◌}
+use Rattle.std.specs.Borrow.{Bor}
 use Rattle.std.specs.Char.{is_ascii_digit}
 use Rattle.std.specs.List.{list_all}
 use Rattle.std.specs.Str.{bytes_eq}
@@ -32,6 +33,10 @@ Mark = List ℕ × ℕ
 abbrev pub place : List ℕ → List Mark → Option ℕ
 place w [] = None
 place w (m ∷ ms) = if bytes_eq w m.0 then Some m.1 else place w ms
+
+-- where a name stands among names
+abbrev pub place_among : List (Bor (List ℕ)) → List ℕ → Option ℕ
+place_among names w = position (λ n. bytes_eq n.now w) names
 
 -- each name occurs neither above nor before
 abbrev pub AreNew : List Mark → List Mark → Type 0

@@ -52,3 +52,10 @@ pub fn label_of(word: &[u8]) -> Option<&[u8]>
         _ => None,
     }
 }
+
+/// Where a name stands among names.
+pub fn place_among(names: &[&[u8]], name: &[u8]) -> Option<usize>
+    ensures { result ≡ text_names.place_among names.now name.now }
+{
+    names.iter().position(|other| is(other, name))
+}
