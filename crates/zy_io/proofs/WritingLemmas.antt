@@ -1,11 +1,10 @@
 -- One text written after another: the fault of either is that of both.
-use Rattle.std.proofs.Common.{◌≡◌, ℕ, ◌+◌, List, [], ◌∷◌, ◌++◌, Option, Result, Ok, Err, refl, sym, ap, ◌∙◌, append_assoc, append-nil, take, drop, arith, zero}
+use Rattle.std.proofs.Common.{◌≡◌, ℕ, ◌+◌, List, [], ◌∷◌, ◌++◌, Result, Ok, Err, refl, sym, ap, ◌∙◌, append_assoc, append-nil, take, drop, arith, zero}
 use Rattle.std.proofs.Common.{suc, ◌<◌, length, get_or}
 use Rattle.std.specs.List.{flat_map}
 use Rattle.std.proofs.lemmas.Grind.{flat_map-append}
-use Rattle.std.specs.Io.KnownBytes.{Appends}
 use Rattle.std.proofs.KnownBytes.{Appends-trans}
-use Rattle.zy_io.specs.Streams.{WrotePrefix}
+use Rattle.zy_io.specs.Streams.{Sent, Sends, SendsPrefix, NoneFailed}
 use Rattle.zy_io.specs.declared.writing.TextFault.{TextFault}
 use Rattle.zy_io.specs.declared.writing.TextFault.TheVariants.{Write, Memory}
 use Rattle.zy_io.specs.Writing.{Appended, AppendedPrefix, Wrote}
@@ -62,43 +61,43 @@ Appended-element-stops f xs i d a b c e r h so_far (front, back, is, now) err =
       now ∙ ap (λ l. l ++ front) so_far ∙ append_assoc a before front,
     )
 
--- Two texts were written: the bytes went from a over b to c, and the number of failures from m over n to k.
-module _ (a b c : Option (List ℕ)) (m n k : ℕ) where
+-- Two texts were written, from a over b to c.
+module _ (a b c : Sent) where
   -- a prefix of the second part, after the whole first
-  pub WrotePrefix-after : (xs ys more text : List ℕ) → Appends a b xs → WrotePrefix b c ys → text ≡ xs ++ (ys ++ more) → WrotePrefix a c text
-  WrotePrefix-after xs ys more text p q e = (
+  SendsPrefix-after : (xs ys more text : List ℕ) → Sends a b xs → SendsPrefix b c ys → text ≡ xs ++ (ys ++ more) → SendsPrefix a c text
+  SendsPrefix-after xs ys more text p q e = (
     xs ++ q.0,
     q.1 ++ more,
     e ∙ ap (λ l. xs ++ (l ++ more)) q.2 ∙ ap (λ l. xs ++ l) (append_assoc q.0 q.1 more) ∙ sym (append_assoc xs q.0 (q.1 ++ more)),
-    Appends-trans a b c xs q.0 p q.3,
+    Appends-trans a.written b.written c.written xs q.0 p q.3,
   )
 
   -- the fault of a part ys of the text, which follows the whole of xs, is that of the text
   pub Wrote-stops : {Y : Type 0} (f : TextFault) (r : Result Y TextFault) (xs ys more text : List ℕ)
-      → Appends a b xs → n ≡ m → Wrote b c n k {X = Unit {0}} (Err f) ys → text ≡ xs ++ (ys ++ more) → r ≡ Err f → Wrote a c m k r text
+      → Sends a b xs → NoneFailed a b → Wrote b c {X = Unit {0}} (Err f) ys → text ≡ xs ++ (ys ++ more) → r ≡ Err f → Wrote a c r text
   Wrote-stops Write r xs ys more text p same q e is =
-      rw is (WrotePrefix-after xs ys more text p q.0 e, q.1 ∙ ap (λ x. x + 1) same)
+      rw is (SendsPrefix-after xs ys more text p q.0 e, q.1 ∙ ap (λ x. x + 1) same)
   Wrote-stops Memory r xs ys more text p same q e is =
-      rw is (WrotePrefix-after xs ys more text p q.0 e, q.1 ∙ same)
+      rw is (SendsPrefix-after xs ys more text p q.0 e, q.1 ∙ same)
 
   -- the second text's fault is that of both
   pub Wrote-second-stops : {Y : Type 0} (f : TextFault) (r : Result Y TextFault) (xs ys : List ℕ)
-      → Appends a b xs × (n ≡ m) → Wrote b c n k {X = Unit {0}} (Err f) ys → r ≡ Err f → Wrote a c m k r (xs ++ ys)
+      → Sends a b xs × NoneFailed a b → Wrote b c {X = Unit {0}} (Err f) ys → r ≡ Err f → Wrote a c r (xs ++ ys)
   Wrote-second-stops f r xs ys p q is =
       Wrote-stops f r xs ys [] (xs ++ ys) p.0 p.1 q (ap (λ l. xs ++ l) (sym (append-nil ys))) is
 
   -- one text after another, both whole
-  pub Wrote-both : (xs ys : List ℕ) → Appends a b xs × (n ≡ m) → Appends b c ys × (k ≡ n) → Appends a c (xs ++ ys) × (k ≡ m)
-  Wrote-both xs ys p q = (Appends-trans a b c xs ys p.0 q.0, q.1 ∙ p.1)
+  pub Wrote-both : (xs ys : List ℕ) → Sends a b xs × NoneFailed a b → Sends b c ys × NoneFailed b c → Sends a c (xs ++ ys) × NoneFailed a c
+  Wrote-both xs ys p q = (Appends-trans a.written b.written c.written xs ys p.0 q.0, q.1 ∙ p.1)
 
   -- one text after another, whatever came of the second
-  pub Wrote-then : {X : Type 0} (r : Result X TextFault) (xs ys : List ℕ) → Appends a b xs × (n ≡ m) → Wrote b c n k r ys → Wrote a c m k r (xs ++ ys)
+  pub Wrote-then : {X : Type 0} (r : Result X TextFault) (xs ys : List ℕ) → Sends a b xs × NoneFailed a b → Wrote b c r ys → Wrote a c r (xs ++ ys)
   Wrote-then (Ok u) xs ys p q = Wrote-both xs ys p q
   Wrote-then {X} (Err f) xs ys p q = Wrote-second-stops {Y = X} f (Err f) xs ys p q refl
 
   -- the fault of one element's text, which follows those before it, is that of the whole list
   pub Wrote-element-stops : {Y Z : Type 0} (f : Z → List ℕ) (xs : List Z) (i : ℕ) (d : Z) (fault : TextFault) (r : Result Y TextFault)
-      → i < length xs → Appends a b (flat_map f (take i xs)) → n ≡ m → Wrote b c n k {X = Unit {0}} (Err fault) (f (get_or xs i d)) → r ≡ Err fault
-      → Wrote a c m k r (flat_map f xs)
+      → i < length xs → Sends a b (flat_map f (take i xs)) → NoneFailed a b → Wrote b c {X = Unit {0}} (Err fault) (f (get_or xs i d)) → r ≡ Err fault
+      → Wrote a c r (flat_map f xs)
   Wrote-element-stops f xs i d fault r h p same q is =
       Wrote-stops fault r _ _ (flat_map f (drop (suc i) xs)) _ p same q (flat_map-split f xs i d h) is

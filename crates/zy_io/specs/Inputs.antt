@@ -1,8 +1,8 @@
 -- What a command does: it reads its input, and then does something with the bytes.
-use Rattle.std.specs.Prelude.{◌≡◌, ◌≤◌, ◌+◌, ◌⊎◌, ℕ, List, Option, Result, Ok, Err}
+use Rattle.std.specs.Prelude.{◌≡◌, ◌≤◌, ◌+◌, ◌⊎◌, ℕ, List, Result, Ok, Err}
 use Rattle.std.specs.declared.vec.Vec.{Vec}
 use Rattle.std.specs.declared.alloc.Global.{Global}
-use Rattle.zy_io.specs.Streams.{ReadsAll, most_read}
+use Rattle.zy_io.specs.Streams.{Pulled, Sent, ReadsAll, most_read}
 use Rattle.zy_io.specs.declared.reading.ReadFault.{ReadFault}
 use Rattle.zy_io.specs.declared.writing.TextFault.{TextFault}
 
@@ -20,23 +20,22 @@ reported_of report (Ok x) = Ok x
 reported_of report (Err f) = Err (report f)
 
 -- `Accepts` says what the input stands for, `Refuses` which fault it has, and `Due` what is to be done with what it stands for.
--- The writer's bytes went from old to new, and the number of its calls that failed from before to after.
+-- The calls of the sink went from old to new.
 module _ {S X E : Type 0} (Accepts : S → Type 0) (Refuses : E → Type 0) (report : TextFault → E)
-    (Due : S → Option (List ℕ) → Option (List ℕ) → ℕ → ℕ → Result X TextFault → Type 0)
-    (old new : Option (List ℕ)) (before after : ℕ) (result : Result X E) where
+    (Due : S → Sent → Sent → Result X TextFault → Type 0) (old new : Sent) (result : Result X E) where
   -- the input is accepted, and what is due is done
   pub record IsDone : Type 0 where
     pub meant : S
     pub accepted : Accepts meant
     pub came : Result X TextFault
-    pub due : Due meant old new before after came
+    pub due : Due meant old new came
     pub reported : result ≡ reported_of report came
 
   -- it is refused: its first fault is reported, or that there was no memory, and nothing is written
   pub record IsRefused : Type 0 where
     pub fault : E
     pub first : Refuses fault
-    pub silent : (new ≡ old) × (after ≡ before)
+    pub silent : new ≡ old
     pub reported : result ≡ Err fault
 
   -- one of the two
@@ -45,39 +44,27 @@ module _ {S X E : Type 0} (Accepts : S → Type 0) (Refuses : E → Type 0) (rep
 
 -- ---- with the input read first
 
--- the bytes that the reader reports and that the writer holds, the calls of each that failed, and how many bytes the
--- reader's calls gave
+-- what the calls of a source and of a sink came to so far
 pub record Streams : Type 0 where
-  pub left : Option (List ℕ)
-  pub written : Option (List ℕ)
-  pub reads : ℕ
-  pub writes : ℕ
-  pub given : ℕ
+  pub pulled : Pulled
+  pub sent : Sent
 
 -- those of a source and a sink, of which these are the members
-abbrev pub streams : {S K : Type 0} → (S → Option (List ℕ)) → (S → ℕ) → (S → ℕ) → (K → Option (List ℕ)) → (K → ℕ)
-    → S → K → Streams
-streams left reads given written writes source sink = record {
-  left = left source;
-  written = written sink;
-  reads = reads source;
-  writes = writes sink;
-  given = given source;
-}
+abbrev pub streams : {S K : Type 0} → (S → Pulled) → (K → Sent) → S → K → Streams
+streams pulled sent source sink = record { pulled = pulled source; sent = sent sink }
 
 -- `Does` is what is done with an input in hand, and `report` gives the fault that is reported of one of reading.
 module _ {X E : Type 0} (report : ReadFault → E)
-    (Does : List ℕ → Option (List ℕ) → Option (List ℕ) → ℕ → ℕ → Result X E → Type 0)
-    (old new : Streams) (result : Result X E) where
+    (Does : List ℕ → Sent → Sent → Result X E → Type 0) (old new : Streams) (result : Result X E) where
   -- that is done with an input that was read whole; else the fault is reported, and nothing is written
   abbrev pub AfterReading : Result (Vec ℕ Global) ReadFault → Type 0
-  AfterReading (Ok bytes) = Does bytes.items old.written new.written old.writes new.writes result
-  AfterReading (Err f) = (result ≡ Err (report f)) × (new.written ≡ old.written) × (new.writes ≡ old.writes)
+  AfterReading (Ok bytes) = Does bytes.items old.sent new.sent result
+  AfterReading (Err f) = (result ≡ Err (report f)) × (new.sent ≡ old.sent)
 
   -- it reads its input, and this is what comes after it
   pub record ReadsInput : Type 0 where
     pub read : Result (Vec ℕ Global) ReadFault
-    pub came : ReadsAll old.left new.left old.reads new.reads read
+    pub came : ReadsAll old.pulled new.pulled read
     pub goes_on : AfterReading read
     -- whatever the reader reports of its bytes, its calls give at most one more than the longest input has
-    pub bound : new.given ≤ old.given + most_read
+    pub bound : new.pulled.given ≤ old.pulled.given + most_read

@@ -4,7 +4,7 @@ use Rattle.std.specs.Prelude.{◌≡◌, ℕ, ◌==◌, ◌+◌, ◌-◌, ◌^�
 use Rattle.std.specs.Prelude.{Option, ◌&&◌, not, if◌then◌else◌}
 use Rattle.std.specs.declared.vec.Vec.{Vec}
 use Rattle.std.specs.declared.alloc.Global.{Global}
-use Rattle.std.specs.Io.KnownBytes.{Appends, Consumes, IsAtEnd}
+use Rattle.std.specs.Io.KnownBytes.{Appends, Consumes, IsAtEnd, append_known}
 use Rattle.zy_io.specs.declared.reading.ReadFault.{ReadFault}
 use Rattle.zy_io.specs.declared.reading.ReadFault.TheVariants.{Read, TooLong, Memory}
 
@@ -41,45 +41,65 @@ pub record CountedReader (R : Type 0) : Type 0 where
   pub failures : ℕ
   pub given : ℕ
 
--- some bytes were taken, at most this number
-abbrev pub TookAtMost : Option (List ℕ) → Option (List ℕ) → ℕ → Type 0
-TookAtMost old new most = (taken : List ℕ) × Consumes old new taken × (length taken ≤ most)
+-- What the calls of a source came to so far: the bytes that are left, where they are known, how many calls failed, and how many
+-- bytes the calls gave, whatever is known of them.
+pub record Pulled : Type 0 where
+  pub left : Option (List ℕ)
+  pub failures : ℕ
+  pub given : ℕ
 
--- some bytes were taken, exactly this number
-abbrev pub Took : Option (List ℕ) → Option (List ℕ) → ℕ → Type 0
-Took old new count = (taken : List ℕ) × Consumes old new taken × (length taken ≡ count)
+-- What the calls of a sink came to so far: the bytes that it was given, where they are known, and how many calls failed or, given
+-- bytes, took none.
+pub record Sent : Type 0 where
+  pub written : Option (List ℕ)
+  pub failures : ℕ
 
--- the input was read to its end, and is not too long
-abbrev pub ReadWhole : Option (List ℕ) → Option (List ℕ) → Type 0
-ReadWhole old new = TookAtMost old new max_input × IsAtEnd new
+-- bytes that are kept back for a sink count as written
+abbrev pub with_pending : Sent → List ℕ → Sent
+with_pending sent bytes = record { written = append_known sent.written bytes; failures = sent.failures }
 
--- at most max_input bytes were read
-abbrev pub ReadSome : Option (List ℕ) → Option (List ℕ) → Type 0
-ReadSome old new = TookAtMost old new max_input
+-- Calls of a source went from old to new.
+module _ (old new : Pulled) where
+  -- at most max_input bytes were read
+  abbrev pub ReadSome : Type 0
+  ReadSome = (taken : List ℕ) × Consumes old.left new.left taken × (length taken ≤ max_input)
 
--- reading stopped at the first byte above max_input
-abbrev pub ReadTooMuch : Option (List ℕ) → Option (List ℕ) → Type 0
-ReadTooMuch old new = Took old new most_read
+  -- reading stopped at the first byte above max_input
+  abbrev pub ReadTooMuch : Type 0
+  ReadTooMuch = (taken : List ℕ) × Consumes old.left new.left taken × (length taken ≡ most_read)
 
--- a prefix of the text went out
-abbrev pub WrotePrefix : Option (List ℕ) → Option (List ℕ) → List ℕ → Type 0
-WrotePrefix old new text = (front : List ℕ) × (back : List ℕ) × (text ≡ front ++ back) × Appends old new front
-
--- a prefix of the text went out, and the rest did not
-abbrev pub Remains : Option (List ℕ) → Option (List ℕ) → List ℕ → List ℕ → Type 0
-Remains old new text rest = (front : List ℕ) × (text ≡ front ++ rest) × Appends old new front
-
--- A call went from the bytes old and the number of failures before to new and after.
-module _ (old new : Option (List ℕ)) (before after : ℕ) where
   -- at Ok these are all the bytes that were left, and none is left; else a prefix of them was taken.
   -- TooLong comes where more than max_input were, and Read where a call failed
   abbrev pub ReadsAll : Result (Vec ℕ Global) ReadFault → Type 0
-  ReadsAll (Ok bytes) = Consumes old new bytes.items × IsAtEnd new × (vec_len bytes ≤ max_input) × (after ≡ before)
-  ReadsAll (Err Read) = ReadSome old new × (after ≡ before + 1)
-  ReadsAll (Err TooLong) = ReadTooMuch old new × (after ≡ before)
-  ReadsAll (Err Memory) = ReadSome old new × (after ≡ before)
+  ReadsAll (Ok bytes) = Consumes old.left new.left bytes.items × IsAtEnd new.left × (vec_len bytes ≤ max_input)
+      × (new.failures ≡ old.failures)
+  ReadsAll (Err Read) = ReadSome × (new.failures ≡ old.failures + 1)
+  ReadsAll (Err TooLong) = ReadTooMuch × (new.failures ≡ old.failures)
+  ReadsAll (Err Memory) = ReadSome × (new.failures ≡ old.failures)
+
+-- A call of a sink went from old to new.
+module _ (old new : Sent) where
+  -- these bytes went out
+  abbrev pub Sends : List ℕ → Type 0
+  Sends bytes = Appends old.written new.written bytes
+
+  -- no call failed
+  abbrev pub NoneFailed : Type 0
+  NoneFailed = new.failures ≡ old.failures
+
+  -- one call failed or, given bytes, took none
+  abbrev pub OneFailed : Type 0
+  OneFailed = new.failures ≡ old.failures + 1
+
+  -- a prefix of the text went out
+  abbrev pub SendsPrefix : List ℕ → Type 0
+  SendsPrefix text = (front : List ℕ) × (back : List ℕ) × (text ≡ front ++ back) × Sends front
+
+  -- a prefix of the text went out, and the rest did not
+  abbrev pub Remains : List ℕ → List ℕ → Type 0
+  Remains text rest = (front : List ℕ) × (text ≡ front ++ rest) × Sends front
 
   -- at Ok all of the text went out; else a prefix of it, since a call failed or took none
   abbrev pub WritesAll : {X E : Type 0} → Result X E → List ℕ → Type 0
-  WritesAll (Ok x) text = Appends old new text × (after ≡ before)
-  WritesAll (Err e) text = WrotePrefix old new text × (after ≡ before + 1)
+  WritesAll (Ok x) text = Sends text × NoneFailed
+  WritesAll (Err e) text = SendsPrefix text × OneFailed

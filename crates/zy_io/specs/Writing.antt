@@ -1,7 +1,6 @@
 -- What a call that writes lines of text did.
-use Rattle.std.specs.Prelude.{◌≡◌, ℕ, ◌+◌, List, [], ◌∷◌, ◌++◌, Option, Result, Ok, Err}
-use Rattle.std.specs.Io.KnownBytes.{Appends}
-use Rattle.zy_io.specs.Streams.{WrotePrefix}
+use Rattle.std.specs.Prelude.{◌≡◌, ℕ, List, [], ◌∷◌, ◌++◌, Result, Ok, Err}
+use Rattle.zy_io.specs.Streams.{Sent, Sends, SendsPrefix, NoneFailed, OneFailed}
 use Rattle.zy_io.specs.declared.writing.TextFault.{TextFault}
 use Rattle.zy_io.specs.declared.writing.TextFault.TheVariants.{Write, Memory}
 
@@ -18,10 +17,10 @@ abbrev pub Appended : {X E : Type 0} → Result X E → List ℕ → List ℕ �
 Appended (Ok x) old new text = new ≡ old ++ text
 Appended (Err e) old new text = AppendedPrefix old new text
 
--- A call that writes went from the bytes old and the number of failures before to new and after.
-module _ (old new : Option (List ℕ)) (before after : ℕ) where
+-- A call that writes went from old to new.
+module _ (old new : Sent) where
   -- at Ok all of the text went out; else a prefix of it, and Write comes where a call failed or took none
   abbrev pub Wrote : {X : Type 0} → Result X TextFault → List ℕ → Type 0
-  Wrote (Ok x) text = Appends old new text × (after ≡ before)
-  Wrote (Err Write) text = WrotePrefix old new text × (after ≡ before + 1)
-  Wrote (Err Memory) text = WrotePrefix old new text × (after ≡ before)
+  Wrote (Ok x) text = Sends old new text × NoneFailed old new
+  Wrote (Err Write) text = SendsPrefix old new text × OneFailed old new
+  Wrote (Err Memory) text = SendsPrefix old new text × NoneFailed old new

@@ -1,8 +1,8 @@
 //! A sink that keeps bytes back, and passes them on many at a time.
 ghost use Rattle.std.specs.Prelude.{◌≡◌, ◌<◌, ◌≤◌, ◌+◌, [], OnOk, if◌then◌else◌};
 ghost use Rattle.std.specs.Prelude.{is_err, length, take};
-ghost use Rattle.std.specs.Io.KnownBytes.{Appends, Keeps, append_known};
-ghost use Rattle.zy_io.specs.Streams.{WritesAll};
+ghost use Rattle.std.specs.Io.KnownBytes.{Keeps, append_known};
+ghost use Rattle.zy_io.specs.Streams.{Sends, WritesAll, with_pending};
 
 use crate::buffer::LineBuffer;
 use crate::pending::Pending;
@@ -40,11 +40,11 @@ impl<K: Sink> Buffered<K> {
     #[cold]
     #[inline(never)]
     pub fn pass(&mut self) -> Result<(), WriteFault>
-        requires { K.failures self.old.sink < u64.MAX }
+        requires { (K.sent self.old.sink).failures < u64.MAX }
         ensures empty { OnOk result (self.new.pending.bytes.items ≡ []) }
-        ensures bytes { Keeps (append_known (K.written self.old.sink) self.old.pending.bytes.items)
-            (append_known (K.written self.new.sink) self.new.pending.bytes.items) }
-        ensures failed { K.failures self.new.sink ≡ K.failures self.old.sink + (if is_err result then 1 else 0) }
+        ensures bytes { Keeps (append_known (K.sent self.old.sink).written self.old.pending.bytes.items)
+            (append_known (K.sent self.new.sink).written self.new.pending.bytes.items) }
+        ensures failed { (K.sent self.new.sink).failures ≡ (K.sent self.old.sink).failures + (if is_err result then 1 else 0) }
     {
         let (given, outcome) = give(&mut self.sink, self.pending.as_slice());
         self.pending.drop_front(given);
@@ -55,10 +55,9 @@ impl<K: Sink> Buffered<K> {
     #[cold]
     #[inline(never)]
     fn put_many(&mut self, bytes: &[u8]) -> Result<(), WriteFault>
-        requires { K.failures self.old.sink < u64.MAX }
-        ensures { WritesAll (append_known (K.written self.old.sink) self.old.pending.bytes.items)
-            (append_known (K.written self.new.sink) self.new.pending.bytes.items)
-            (K.failures self.old.sink) (K.failures self.new.sink) result bytes.now }
+        requires { (K.sent self.old.sink).failures < u64.MAX }
+        ensures { WritesAll (with_pending (K.sent self.old.sink) self.old.pending.bytes.items)
+            (with_pending (K.sent self.new.sink) self.new.pending.bytes.items) result bytes.now }
     {
         self.pass()?;
         if self.pending.keep(bytes) {
@@ -70,9 +69,7 @@ impl<K: Sink> Buffered<K> {
 
 /// What is kept back counts as written.
 impl<K: Sink> Sink for Buffered<K> {
-    ghost written = { λ s. append_known (K.written s.sink) s.pending.bytes.items };
-
-    ghost failures = { λ s. K.failures s.sink };
+    ghost sent = { λ s. with_pending (K.sent s.sink) s.pending.bytes.items };
 
     fn put(&mut self, bytes: &[u8]) -> io::Result<usize> {
         if bytes.is_empty() || self.pending.keep(bytes) {
@@ -107,11 +104,11 @@ impl<K: Sink> Sink for Buffered<K> {
 
 /// Gives bytes to a sink up to the first call that fails or takes none, and says how many it took.
 fn give<K: Sink>(sink: &mut K, bytes: &[u8]) -> (usize, Result<(), WriteFault>)
-    requires { K.failures sink.old < u64.MAX }
+    requires { (K.sent sink.old).failures < u64.MAX }
     ensures bound { result.0 ≤ length bytes.now }
     ensures all { OnOk result.1 (result.0 ≡ length bytes.now) }
-    ensures bytes { Appends (K.written sink.old) (K.written sink.new) (take result.0 bytes.now) }
-    ensures failed { K.failures sink.new ≡ K.failures sink.old + (if is_err result.1 then 1 else 0) }
+    ensures bytes { Sends (K.sent sink.old) (K.sent sink.new) (take result.0 bytes.now) }
+    ensures failed { (K.sent sink.new).failures ≡ (K.sent sink.old).failures + (if is_err result.1 then 1 else 0) }
 {
     let mut given = 0;
     while given < bytes.len() {

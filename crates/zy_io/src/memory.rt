@@ -40,11 +40,7 @@ impl<'a> SliceSource<'a> {
 }
 
 impl Source for SliceSource<'_> {
-    ghost left = { λ s. Some s.0 };
-
-    ghost failures = { λ _. 0 };
-
-    ghost given = { λ s. s.1 };
+    ghost pulled = { λ s. record { left = Some s.0; failures = 0; given = s.1 } };
 
     fn pull(&mut self, buffer: &mut [u8]) -> io::Result<usize> {
         let count = buffer.len().min(self.rest.len());
@@ -103,9 +99,7 @@ impl VecSink {
 }
 
 impl Sink for VecSink {
-    ghost written = { λ s. Some s.0 };
-
-    ghost failures = { λ s. s.1 };
+    ghost sent = { λ s. record { written = Some s.0; failures = s.1 } };
 
     fn put(&mut self, bytes: &[u8]) -> io::Result<usize> {
         match self.bytes.extend_from_slice(bytes) {

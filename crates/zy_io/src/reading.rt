@@ -42,17 +42,16 @@ impl From<AllocError> for ReadFault {
 
 /// Reads to the end, to a call that fails, or to the byte after the longest input.
 pub fn read_all<S: Source>(alloc: Global, source: &mut S) -> Result<Vec<u8>, ReadFault>
-    requires { S.failures source.old < u64.MAX }
-    ensures reads { ReadsAll (S.left source.old) (S.left source.new)
-        (S.failures source.old) (S.failures source.new) result }
+    requires { (S.pulled source.old).failures < u64.MAX }
+    ensures reads { ReadsAll (S.pulled source.old) (S.pulled source.new) result }
 
     // Where the bytes are known beforehand these are they, and it is known when they are too many.
-    ensures whole { IfOk result (λ bytes. IfSome (S.left source.old) (λ left. bytes.items ≡ left)) }
+    ensures whole { IfOk result (λ bytes. IfSome (S.pulled source.old).left (λ left. bytes.items ≡ left)) }
     ensures long { result ≡ Err ReadFault.TooLong
-        → IfSome (S.left source.old) (λ left. max_input < length left) }
+        → IfSome (S.pulled source.old).left (λ left. max_input < length left) }
 
     // Whatever is known of the bytes, the calls give at most one byte more than the longest input has.
-    ensures bound { S.given source.new ≤ S.given source.old + most_read }
+    ensures bound { (S.pulled source.new).given ≤ (S.pulled source.old).given + most_read }
 {
     let mut bytes = Vec::with_capacity(alloc, FIRST_ROOM)?;
     let mut piece = [0u8; PIECE];

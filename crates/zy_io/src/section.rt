@@ -52,9 +52,8 @@ pub trait Section {
 
     /// Writes each line, in the buffer, whose old text is lost.
     fn write<K: Sink>(&self, sink: &mut K, line: &mut LineBuffer) -> Result<(), TextFault>
-        requires { K.failures sink.old < u64.MAX }
-        ensures { Wrote (K.written sink.old) (K.written sink.new) (K.failures sink.old)
-            (K.failures sink.new) result (flat_map line_of (texts self.now)) };
+        requires { (K.sent sink.old).failures < u64.MAX }
+        ensures { Wrote (K.sent sink.old) (K.sent sink.new) result (flat_map line_of (texts self.now)) };
 }
 
 /// A list of parts of a text, each of which has lines of its own.
@@ -73,18 +72,16 @@ pub trait Parts {
         sink: &mut K,
         line: &mut LineBuffer,
     ) -> Result<(), TextFault>
-        requires failures { K.failures sink.old < u64.MAX }
+        requires failures { (K.sent sink.old).failures < u64.MAX }
         requires within { place < length (parts self.now) }
-        ensures { Wrote (K.written sink.old) (K.written sink.new) (K.failures sink.old)
-            (K.failures sink.new) result (flat_map line_of (slice_index_or (parts self.now) place [])) };
+        ensures { Wrote (K.sent sink.old) (K.sent sink.new) result (flat_map line_of (slice_index_or (parts self.now) place [])) };
 }
 
 /// Ends the line, and writes it.
 #[inline(always)]
 fn finish_line<K: Sink>(sink: &mut K, line: &mut LineBuffer) -> Result<(), TextFault>
-    requires { K.failures sink.old < u64.MAX }
-    ensures { Wrote (K.written sink.old) (K.written sink.new) (K.failures sink.old)
-        (K.failures sink.new) result (line_of line.old) }
+    requires { (K.sent sink.old).failures < u64.MAX }
+    ensures { Wrote (K.sent sink.old) (K.sent sink.new) result (line_of line.old) }
 {
     line.push(b'\n')?;
     sink.put_all(line.as_bytes())?;

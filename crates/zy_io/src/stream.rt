@@ -1,9 +1,9 @@
 //! Where bytes come from and go to, one call at a time, with a count of the calls that failed and of the bytes that
 //! were given.
-ghost use Rattle.std.specs.Prelude.{◌≡◌, ◌<◌, ◌≤◌, ◌+◌, ℕ, List, Option, is_err, if◌then◌else◌};
+ghost use Rattle.std.specs.Prelude.{◌≡◌, ◌<◌, ◌≤◌, ◌+◌};
 ghost use Rattle.std.specs.Io.{ReadsAtMost, WritesAtMost};
 ghost use Rattle.std.specs.Io.KnownBytes.{ReadConsumes, WriteAppends, Keeps};
-ghost use Rattle.zy_io.specs.Streams.{WritesAll, counted, pull_faults, pulled_bytes, put_faults};
+ghost use Rattle.zy_io.specs.Streams.{Pulled, Sent, WritesAll, counted, pull_faults, pulled_bytes, put_faults};
 ghost use Rattle.zy_io.specs.Writing.{Wrote};
 
 use crate::buffer::LineBuffer;
@@ -15,44 +15,35 @@ use std::marker::Model;
 
 /// Where bytes come from.
 pub trait Source {
-    // The bytes that are left, where they are known.
-    ghost left: { Self → Option (List ℕ) };
-
-    // How many calls failed so far.
-    ghost failures: { Self → ℕ };
-
-    // How many bytes the calls gave so far, whatever is known of them.
-    ghost given: { Self → ℕ };
+    // What the calls came to so far.
+    ghost pulled: { Self → Pulled };
 
     /// Fills a prefix of the buffer; no byte, where there is room, means the end.
     fn pull(&mut self, buffer: &mut [u8]) -> io::Result<usize>
-        requires { failures self.old < u64.MAX }
+        requires { (pulled self.old).failures < u64.MAX }
         ensures bound { ReadsAtMost result buffer.new }
-        ensures bytes { ReadConsumes (left self.old) (left self.new) result buffer.new }
-        ensures failed { failures self.new ≡ failures self.old + pull_faults result }
-        ensures given { given self.new ≡ counted (given self.old) (pulled_bytes result) };
+        ensures bytes { ReadConsumes (pulled self.old).left (pulled self.new).left result buffer.new }
+        ensures failed { (pulled self.new).failures ≡ (pulled self.old).failures + pull_faults result }
+        ensures given { (pulled self.new).given ≡ counted (pulled self.old).given (pulled_bytes result) };
 }
 
 /// Where bytes go.
 pub trait Sink {
-    // The bytes that were written, where they are known.
-    ghost written: { Self → Option (List ℕ) };
-
-    // How many calls so far failed or, given bytes, took none.
-    ghost failures: { Self → ℕ };
+    // What the calls came to so far.
+    ghost sent: { Self → Sent };
 
     /// Takes a prefix of the bytes.
     fn put(&mut self, bytes: &[u8]) -> io::Result<usize>
-        requires { failures self.old < u64.MAX }
+        requires { (sent self.old).failures < u64.MAX }
         ensures bound { WritesAtMost result bytes.now }
-        ensures bytes { WriteAppends (written self.old) (written self.new) result bytes.now }
-        ensures failed { failures self.new ≡ failures self.old + put_faults result bytes.now };
+        ensures bytes { WriteAppends (sent self.old).written (sent self.new).written result bytes.now }
+        ensures failed { (sent self.new).failures ≡ (sent self.old).failures + put_faults result bytes.now };
 
     /// Takes all of the bytes, or those up to the first call that fails or takes none. Each line of a listing goes out
     /// by one call.
     fn put_all(&mut self, bytes: &[u8]) -> Result<(), WriteFault>
-        requires { failures self.old < u64.MAX }
-        ensures { WritesAll (written self.old) (written self.new) (failures self.old) (failures self.new) result bytes.now }
+        requires { (sent self.old).failures < u64.MAX }
+        ensures { WritesAll (sent self.old) (sent self.new) result bytes.now }
     {
         let mut rest = bytes;
         while !rest.is_empty() {
@@ -71,9 +62,9 @@ pub trait Sink {
     /// Takes a piece as `put_all` takes bytes. A sink that has no place for it to be put together in has it from the buffer,
     /// whose old text is lost.
     fn put_piece<P: Piece>(&mut self, piece: P, buffer: &mut LineBuffer) -> Result<(), TextFault>
-        requires failures { failures self.old < u64.MAX }
+        requires failures { (sent self.old).failures < u64.MAX }
         requires short { P.most ≤ 160 }
-        ensures { Wrote (written self.old) (written self.new) (failures self.old) (failures self.new) result (P.text piece) }
+        ensures { Wrote (sent self.old) (sent self.new) result (P.text piece) }
     {
         buffer.clear();
         buffer.push_piece(piece)?;
@@ -133,11 +124,7 @@ impl<R> CountingReader<R> {
 }
 
 impl<R: Read> Source for CountingReader<R> {
-    ghost left = { λ s. R.remaining s.reader };
-
-    ghost failures = { λ s. s.failures };
-
-    ghost given = { λ s. s.given };
+    ghost pulled = { λ s. record { left = R.remaining s.reader; failures = s.failures; given = s.given } };
 
     fn pull(&mut self, buffer: &mut [u8]) -> io::Result<usize> {
         let outcome = self.reader.read(buffer);
@@ -189,9 +176,7 @@ impl<W> CountingWriter<W> {
 }
 
 impl<W: Write> Sink for CountingWriter<W> {
-    ghost written = { λ s. W.contents s.0 };
-
-    ghost failures = { λ s. s.1 };
+    ghost sent = { λ s. record { written = W.contents s.0; failures = s.1 } };
 
     fn put(&mut self, bytes: &[u8]) -> io::Result<usize> {
         let outcome = self.writer.write(bytes);

@@ -6,9 +6,9 @@ use Rattle.zy_io.specs.Streams.{max_input, most_read}
 
 abbrev pub invariant-loop-count : goal.invariant-loop-count
 invariant-loop-count g l = record {
-  so_far : Consumes (g.S.Source.left l.initial.source) (g.S.Source.left l.source) l.bytes.items;
-  none_failed : g.S.Source.failures l.source ≡ g.S.Source.failures l.initial.source;
-  bound : g.S.Source.given l.source ≤ g.S.Source.given l.initial.source + vec_len l.bytes;
+  so_far : Consumes (g.S.Source.pulled l.initial.source).left (g.S.Source.pulled l.source).left l.bytes.items;
+  none_failed : (g.S.Source.pulled l.source).failures ≡ (g.S.Source.pulled l.initial.source).failures;
+  bound : (g.S.Source.pulled l.source).given ≤ (g.S.Source.pulled l.initial.source).given + vec_len l.bytes;
   room : vec_len l.bytes ≤ max_input;
 }
 

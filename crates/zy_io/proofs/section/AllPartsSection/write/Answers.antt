@@ -11,7 +11,7 @@ pub returns-in_err-write_part : goal.returns-in_err-write_part
 returns-in_err-write_part g c =
     let p = err_from_is_err_and c.from_residual.result c.from_residual.ensures.1 in
     rw flat_map-flat_map
-    (Wrote-element-stops _ _ _ _ _ _ (flat_map line_of) (g.P.Parts.parts c.args.self.now.0) c.loop-place.place [] c.in_err-write_part.field-0.0 _
+    (Wrote-element-stops _ _ _ (flat_map line_of) (g.P.Parts.parts c.args.self.now.0) c.loop-place.place [] c.in_err-write_part.field-0.0 _
     (omega arith) c.loop-place.invariant.so_far
     c.loop-place.invariant.none_failed c.in_err-write_part.ensures (p.1 ∙ ap Err p.2))
 
