@@ -1,8 +1,11 @@
 //! What is before the choices: the header, the rows and the programs.
 ghost use Rattle.zy_disasm.specs.Lines.{program_parts, head_texts};
 
-use crate::lines::{Number, RuleLine, VersionLine};
-use zy_io::{AllLines, AllParts, LineBuffer, One, Parts, Section, Sink, TextFault, sections};
+use crate::lines::{RuleLine, VersionLine};
+use zy_io::{
+    AllParts, AllPieces, Decimal, LineBuffer, One, Parts, Section, Sink, TextFault, joined,
+    sections,
+};
 use zy_isa::{Program, Scenario};
 use zy_text::Each;
 
@@ -17,16 +20,10 @@ impl Section for ScenarioHead<'_> {
         let scenario = self.0;
         sections!(
             One(VersionLine(scenario.version())),
-            One(Number {
-                word: "cap",
-                number: usize::from(scenario.cap()),
-            }),
-            One(Number {
-                word: "pages",
-                number: usize::from(scenario.pages()),
-            }),
+            One(joined!("cap ", Decimal(scenario.cap()))),
+            One(joined!("pages ", Decimal(scenario.pages()))),
             One(RuleLine(scenario.rule())),
-            AllLines(Each(scenario.rows())),
+            AllPieces(Each(scenario.rows())),
             AllParts(Programs(scenario.programs())),
         )
         .write(sink, line)
@@ -50,10 +47,7 @@ impl Parts for Programs<'_> {
         sink: &mut K,
         line: &mut LineBuffer,
     ) -> Result<(), TextFault> {
-        let title = Number {
-            word: "txn",
-            number: place,
-        };
-        sections!(One(title), AllLines(Each(self.0[place].words()))).write(sink, line)
+        let title = joined!("txn ", Decimal(place));
+        sections!(One(title), AllPieces(Each(self.0[place].words()))).write(sink, line)
     }
 }

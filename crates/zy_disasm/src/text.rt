@@ -5,7 +5,7 @@ ghost use Rattle.zy_io.specs.Writing.{Wrote};
 
 use crate::head::ScenarioHead;
 use std::alloc::Global;
-use zy_io::{AllLines, LineBuffer, One, Section, Sink, TextFault, sections};
+use zy_io::{AllPieces, LineBuffer, One, Section, Sink, TextFault, sections};
 use zy_isa::Scenario;
 use zy_text::Each;
 
@@ -22,7 +22,7 @@ pub fn write_text<K: Sink>(
     let mut line = LineBuffer::new(alloc);
     sections!(
         ScenarioHead(scenario),
-        AllLines(Each(scenario.choices())),
+        AllPieces(Each(scenario.choices())),
         One("end"),
     )
     .write(sink, &mut line)

@@ -15,7 +15,7 @@ use std::alloc::{AllocError, Global};
 use std::thread::Threads;
 use zy_asm::assembling::assemble_bytes;
 use zy_disasm::ScenarioHead;
-use zy_io::{AllLines, LineBuffer, MAX_INPUT, One, Section, Sink, TextFault, sections};
+use zy_io::{AllPieces, LineBuffer, MAX_INPUT, One, Section, Sink, TextFault, sections};
 use zy_isa::{Choice, Scenario};
 use zy_machine::replay::{advance_to, start};
 use zy_machine::{Fault, Machine};
@@ -145,8 +145,8 @@ fn write_canonical<K: Sink>(
     let mut line = LineBuffer::new(alloc);
     sections!(
         ScenarioHead(scenario),
-        AllLines(Each(&scenario.choices()[..kept])),
-        AllLines(Each(more)),
+        AllPieces(Each(&scenario.choices()[..kept])),
+        AllPieces(Each(more)),
         One("end"),
     )
     .write(sink, &mut line)

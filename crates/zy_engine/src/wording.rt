@@ -118,10 +118,10 @@ fn append_choice(names: &[&[u8]], choice: Choice, line: &mut LineBuffer) -> Resu
             append_txn(names, txn, line)?;
         }
         Choice::Run(node, txn) => {
-            joined!(Canonical(node), " run ").append(line)?;
+            line.push_piece(joined!(Canonical(node), b" run "))?;
             append_txn(names, txn, line)?;
         }
-        other => Canonical(other).append(line)?,
+        other => line.push_piece(Canonical(other))?,
     }
     line.push(b'\n')
 }

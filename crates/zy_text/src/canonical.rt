@@ -1,82 +1,55 @@
 //! The canonical text of each value of a scenario.
-ghost use Rattle.std.specs.Prelude.{◌≡◌, [], ◌∷◌, ℕ, List, map};
-ghost use Rattle.zy_io.specs.Writing.{Appended};
+ghost use Rattle.std.specs.Prelude.{◌≡◌, [], ◌∷◌, map};
 ghost use Rattle.zy_isa.specs.Operations.{mnemonic};
 ghost use Rattle.zy_isa.specs.Versions.{word};
 ghost use Rattle.zy_text.specs.Words.{spaced};
 ghost use Rattle.zy_text.specs.Canon.{node_text, rule_text, reg_text, row_text, instr_text, choice_text};
 
 use std::alloc::AllocError;
-use zy_io::{Decimal, Line, LineBuffer, Lines, Piece, joined};
+use zy_io::{Decimal, Line, LineBuffer, Piece, PieceLines, joined};
 use zy_isa::{
     Choice, Instr, JumpOperation, LoneOperation, Node, NumberOperation, Operation, PairOperation,
     Parts, Reg, Row, Rule, Version, Word,
 };
 
-/// A value with a canonical text, which is a line or a part of one.
-pub trait CanonicalText {
-    // The text, without the line's end.
-    ghost text: { Self → List ℕ };
-
-    /// Puts its text behind what the buffer holds. At an error a prefix of it may be there.
-    fn append_text(&self, line: &mut LineBuffer) -> Result<(), AllocError>
-        ensures { Appended result line.old line.new (text self.now) };
-}
-
 /// A value, as its canonical text.
 #[derive(Clone, Copy)]
 pub struct Canonical<T>(pub T);
 
-impl<T: CanonicalText> Line for Canonical<T> {
-    ghost text = { λ c. T.text c.0 };
+impl Piece for Canonical<Version> {
+    ghost text = { λ c. word c.0 };
+
+    ghost most = { 1 };
 
     #[inline(always)]
-    fn append(&self, line: &mut LineBuffer) -> Result<(), AllocError> {
-        self.0.append_text(line)
+    fn put_behind(self, bytes: Vec<u8>) -> Vec<u8> {
+        (&[self.0.digit()]).put_behind(bytes)
     }
 }
 
-/// A line for each value, its canonical text.
-#[derive_where(Clone, Copy)]
-pub struct Each<'a, T>(pub &'a [T]);
+impl Piece for Canonical<Rule> {
+    ghost text = { λ c. rule_text c.0 };
 
-impl<T: CanonicalText> Lines for Each<'_, T> {
-    ghost texts = { λ s. map T.text s.0.now };
-
-    fn len(&self) -> usize {
-        self.0.len()
-    }
+    ghost most = { 5 };
 
     #[inline(always)]
-    fn append(&self, place: usize, line: &mut LineBuffer) -> Result<(), AllocError> {
-        self.0[place].append_text(line)
-    }
-}
-
-impl CanonicalText for Version {
-    ghost text = { word };
-
-    fn append_text(&self, line: &mut LineBuffer) -> Result<(), AllocError> {
-        self.digit().append(line)
-    }
-}
-
-impl CanonicalText for Rule {
-    ghost text = { rule_text };
-
-    fn append_text(&self, line: &mut LineBuffer) -> Result<(), AllocError> {
-        match self {
-            Rule::Held => "held".append(line),
-            Rule::Loose => "loose".append(line),
+    fn put_behind(self, bytes: Vec<u8>) -> Vec<u8> {
+        match self.0 {
+            Rule::Held => b"held".put_behind(bytes),
+            Rule::Loose => b"loose".put_behind(bytes),
         }
     }
 }
 
-impl CanonicalText for Row {
-    ghost text = { row_text };
+impl Piece for Canonical<Row> {
+    ghost text = { λ c. row_text c.0 };
 
-    fn append_text(&self, line: &mut LineBuffer) -> Result<(), AllocError> {
-        joined!("row ", Decimal(self.key), b' ', Decimal(self.value)).append(line)
+    ghost most = { 45 };
+
+    #[inline(always)]
+    fn put_behind(self, bytes: Vec<u8>) -> Vec<u8> {
+        let Row { key, value } = self.0;
+        joined!(b"row ", Decimal(key), b" ", Decimal(value)).put_behind(bytes)
     }
 }
 
@@ -101,67 +74,64 @@ fn digit(register: Reg) -> u8
 #[derive(Clone, Copy)]
 struct Registers(Reg, Reg);
 
-impl Line for Registers {
+impl Piece for Registers {
     ghost text = { λ p. 32 ∷ spaced (reg_text p.0 ∷ reg_text p.1 ∷ []) };
 
+    ghost most = { 6 };
+
     #[inline(always)]
-    fn append(&self, line: &mut LineBuffer) -> Result<(), AllocError> {
-        [b' ', b'r', digit(self.0), b' ', b'r', digit(self.1)].append(line)
+    fn put_behind(self, bytes: Vec<u8>) -> Vec<u8> {
+        (&[b' ', b'r', digit(self.0), b' ', b'r', digit(self.1)]).put_behind(bytes)
     }
 }
 
-impl CanonicalText for Operation {
-    ghost text = { mnemonic };
+impl Piece for Canonical<Operation> {
+    ghost text = { λ c. mnemonic c.0 };
+
+    ghost most = { 6 };
 
     #[inline(always)]
-    fn append_text(&self, line: &mut LineBuffer) -> Result<(), AllocError> {
-        match self {
-            Operation::Number(NumberOperation::Set) => "set".append(line),
-            Operation::Pair(PairOperation::Read) => "read".append(line),
-            Operation::Pair(PairOperation::Write) => "write".append(line),
-            Operation::Pair(PairOperation::Insert) => "insert".append(line),
-            Operation::Pair(PairOperation::Add) => "add".append(line),
-            Operation::Pair(PairOperation::Sum) => "sum".append(line),
-            Operation::Jump(JumpOperation::Beq) => "beq".append(line),
-            Operation::Lone(LoneOperation::Commit) => "commit".append(line),
-            Operation::Lone(LoneOperation::Abort) => "abort".append(line),
+    fn put_behind(self, bytes: Vec<u8>) -> Vec<u8> {
+        match self.0 {
+            Operation::Number(NumberOperation::Set) => b"set".put_behind(bytes),
+            Operation::Pair(PairOperation::Read) => b"read".put_behind(bytes),
+            Operation::Pair(PairOperation::Write) => b"write".put_behind(bytes),
+            Operation::Pair(PairOperation::Insert) => b"insert".put_behind(bytes),
+            Operation::Pair(PairOperation::Add) => b"add".put_behind(bytes),
+            Operation::Pair(PairOperation::Sum) => b"sum".put_behind(bytes),
+            Operation::Jump(JumpOperation::Beq) => b"beq".put_behind(bytes),
+            Operation::Lone(LoneOperation::Commit) => b"commit".put_behind(bytes),
+            Operation::Lone(LoneOperation::Abort) => b"abort".put_behind(bytes),
         }
     }
 }
 
-impl CanonicalText for Instr {
-    ghost text = { instr_text };
+impl Piece for Canonical<Instr> {
+    ghost text = { λ c. instr_text c.0 };
+
+    ghost most = { 34 };
 
     #[inline(always)]
-    fn append_text(&self, line: &mut LineBuffer) -> Result<(), AllocError> {
-        match self.parts() {
+    fn put_behind(self, bytes: Vec<u8>) -> Vec<u8> {
+        match self.0.parts() {
             Parts::Number(operation, a, number) => joined!(
                 Canonical(Operation::Number(operation)),
-                [b' ', b'r', digit(a), b' '],
+                &[b' ', b'r', digit(a), b' '],
                 Decimal(number),
             )
-            .append(line),
-            Parts::Pair(operation, a, b) => joined!(
-                Canonical(Operation::Pair(operation)),
-                Registers(a, b),
-            ).append(line),
+            .put_behind(bytes),
+            Parts::Pair(operation, a, b) => {
+                joined!(Canonical(Operation::Pair(operation)), Registers(a, b)).put_behind(bytes)
+            }
             Parts::Jump(operation, a, b, target) => joined!(
                 Canonical(Operation::Jump(operation)),
                 Registers(a, b),
-                " @",
+                b" @",
                 Decimal(target),
             )
-            .append(line),
-            Parts::Lone(operation) => Operation::Lone(operation).append_text(line),
+            .put_behind(bytes),
+            Parts::Lone(operation) => Canonical(Operation::Lone(operation)).put_behind(bytes),
         }
-    }
-}
-
-impl CanonicalText for Word {
-    ghost text = { instr_text };
-
-    fn append_text(&self, line: &mut LineBuffer) -> Result<(), AllocError> {
-        self.instr().append_text(line)
     }
 }
 
@@ -179,11 +149,12 @@ impl Piece for Canonical<Node> {
     }
 }
 
-impl CanonicalText for Node {
-    ghost text = { node_text };
+impl Line for Canonical<Node> {
+    ghost text = { λ c. node_text c.0 };
 
-    fn append_text(&self, line: &mut LineBuffer) -> Result<(), AllocError> {
-        line.push_piece(Canonical(*self))
+    #[inline(always)]
+    fn append(&self, line: &mut LineBuffer) -> Result<(), AllocError> {
+        line.push_piece(*self)
     }
 }
 
@@ -209,11 +180,51 @@ impl Piece for Canonical<Choice> {
     }
 }
 
-impl CanonicalText for Choice {
-    ghost text = { choice_text };
+/// A line for each value, its canonical text.
+#[derive_where(Clone, Copy)]
+pub struct Each<'a, T>(pub &'a [T]);
+
+impl PieceLines for Each<'_, Row> {
+    type Text = Canonical<Row>;
+
+    ghost texts = { λ s. map row_text s.0.now };
+
+    fn len(&self) -> usize {
+        self.0.len()
+    }
 
     #[inline(always)]
-    fn append_text(&self, line: &mut LineBuffer) -> Result<(), AllocError> {
-        line.push_piece(Canonical(*self))
+    fn line(&self, place: usize) -> Canonical<Row> {
+        Canonical(self.0[place])
+    }
+}
+
+impl PieceLines for Each<'_, Word> {
+    type Text = Canonical<Instr>;
+
+    ghost texts = { λ s. map instr_text s.0.now };
+
+    fn len(&self) -> usize {
+        self.0.len()
+    }
+
+    #[inline(always)]
+    fn line(&self, place: usize) -> Canonical<Instr> {
+        Canonical(self.0[place].instr())
+    }
+}
+
+impl PieceLines for Each<'_, Choice> {
+    type Text = Canonical<Choice>;
+
+    ghost texts = { λ s. map choice_text s.0.now };
+
+    fn len(&self) -> usize {
+        self.0.len()
+    }
+
+    #[inline(always)]
+    fn line(&self, place: usize) -> Canonical<Choice> {
+        Canonical(self.0[place])
     }
 }

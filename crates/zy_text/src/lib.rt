@@ -9,5 +9,5 @@ pub mod names;
 pub mod numbers;
 pub mod usual;
 
-pub use crate::canonical::{Canonical, CanonicalText, Each};
+pub use crate::canonical::{Canonical, Each};
 pub use crate::line::Words;

@@ -15,7 +15,7 @@ use crate::since::{Marks, Since, Texts, append_since};
 use crate::step::{Buffers, trace_step};
 use std::alloc::{AllocError, Global};
 use zy_disasm::ScenarioHead;
-use zy_io::{AllLines, LineBuffer, One, Section, Sink, TextFault, sections};
+use zy_io::{AllPieces, LineBuffer, One, Section, Sink, TextFault, sections};
 use zy_isa::Scenario;
 use zy_listing::{FinalState, SerialLine};
 use zy_machine::Machine;
@@ -74,7 +74,7 @@ fn write_opening<K: Sink>(
     let scenario = machine.scenario();
     sections!(
         ScenarioHead(scenario),
-        AllLines(Each(scenario.choices())),
+        AllPieces(Each(scenario.choices())),
         One("end"),
         One("trace"),
         One("0 opening"),

@@ -5,9 +5,7 @@ returns g c =
     rw (
       ← c.version.ensures.value,
       ← c.cap.ensures.value,
-      ← c.from.ensures,
       ← c.pages.ensures.value,
-      ← c.from-2.ensures,
       ← c.rule.ensures.value,
       ← c.rows.ensures.value,
       ← c.programs.ensures.value,
