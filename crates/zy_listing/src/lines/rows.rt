@@ -15,7 +15,7 @@ impl Line for Cell {
     #[inline(always)]
     fn append(&self, line: &mut LineBuffer) -> Result<(), AllocError> {
         let Row { key, value } = self.0;
-        joined!(b' ', Decimal(key), b'=', Decimal(value)).append(line)
+        line.push_piece(joined!(b" ", Decimal(key), b"=", Decimal(value)))
     }
 }
 
@@ -43,7 +43,7 @@ impl Line for Value {
 
     #[inline(always)]
     fn append(&self, line: &mut LineBuffer) -> Result<(), AllocError> {
-        joined!(b' ', Decimal(self.0)).append(line)
+        line.push_piece(joined!(b" ", Decimal(self.0)))
     }
 }
 
