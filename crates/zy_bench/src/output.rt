@@ -62,9 +62,7 @@ impl<W> PipeSink<W> {
 }
 
 impl<W: Write> Sink for PipeSink<W> {
-    ghost written = { λ s. W.contents s.0 };
-
-    ghost failures = { λ s. s.1 };
+    ghost sent = { λ s. record { written = W.contents s.0; failures = s.1 } };
 
     fn put(&mut self, bytes: &[u8]) -> io::Result<usize> {
         let outcome = self.sink.put(bytes);

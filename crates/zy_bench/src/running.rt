@@ -72,7 +72,7 @@ fn run<R: Eprint + AllocGlobal + Threads + Wait + Sync, S: Source, W: Write>(
     input: &mut Vec<u8>,
     output: &mut Output<W>,
 ) -> Result<u8, BenchFault>
-    requires source { S.failures source.old < u64.MAX }
+    requires source { (S.pulled source.old).failures < u64.MAX }
     requires output { output.old.sink.1 < u64.MAX }
 {
     let machine = shown_run(rt, shown, format, source, input, output)?;
@@ -90,7 +90,7 @@ fn shown_run<R: AllocGlobal + Threads + Wait + Sync, S: Source, W: Write>(
     input: &mut Vec<u8>,
     output: &mut Output<W>,
 ) -> Result<Machine, BenchFault>
-    requires source { S.failures source.old < u64.MAX }
+    requires source { (S.pulled source.old).failures < u64.MAX }
     requires output { output.old.sink.1 < u64.MAX }
     ensures { OnOk result (output.new.sink.1 < u64.MAX) }
 {

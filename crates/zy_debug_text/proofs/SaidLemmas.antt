@@ -2,7 +2,7 @@
 use Rattle.std.proofs.Common.{◌≡◌, ℕ, List, [], ◌∷◌, ◌++◌, Option, refl, sym, ap, subst, ◌∙◌, append_assoc, append-nil}
 use Rattle.std.specs.Io.KnownBytes.{Appends}
 use Rattle.std.proofs.KnownBytes.{Appends-trans, Appends-nil}
-use Rattle.zy_io.specs.Streams.{WrotePrefix}
+use Rattle.zy_io.specs.Streams.{Sent, Sends, SendsPrefix}
 use Rattle.zy_text.specs.Words.{words_of}
 use Rattle.zy_text.specs.Lines.{first_words}
 use Rattle.zy_debug.specs.Sessions.{Session}
@@ -65,21 +65,21 @@ pub record Next (all last : List (List ℕ)) (t u : Session) (more : List ℕ) :
   pub first : all ≡ line ∷ last
   pub says : LineSays t (words_of line) u more
 
--- The lines so far led from s to t, and the bytes that were written from old to now; then comes the next line.
-module _ (old now : Option (List ℕ)) (s t u : Session) (lines all last : List (List ℕ)) (more : List ℕ) (h : Said old now s lines all t)
+-- The lines so far led from s to t, and the calls of the sink from old to now; then comes the next line.
+module _ (old now : Sent) (s t u : Session) (lines all last : List (List ℕ)) (more : List ℕ) (h : Said old now s lines all t)
     (n : Next all last t u more) where
   -- all that it says goes out
-  pub said_more : (new : Option (List ℕ)) → Appends now new more → Said old new s lines last u
+  pub said_more : (new : Sent) → Sends now new more → Said old new s lines last u
   said_more new wrote = record {
     read = h.read ++ n.line ∷ [];
     parted = h.parted ∙ ap (λ x. h.read ++ x) n.first ∙ line_over h.read n.line last;
     out = h.out ++ more;
     says = says_join s t u h.read (n.line ∷ []) h.out more h.says (one_line t u n.line more n.says);
-    wrote = Appends-trans old now new h.out more h.wrote wrote;
+    wrote = Appends-trans old.written now.written new.written h.out more h.wrote wrote;
   }
 
   -- a prefix of what it says goes out
-  pub said_torn : (new : Option (List ℕ)) → WrotePrefix now new more → SaysPrefix old new s lines
+  pub said_torn : (new : Sent) → SendsPrefix now new more → SaysPrefix old new s lines
   said_torn new (front, back, is, wrote) =
       let k = says_some u last in
       let others : Says t (n.line ∷ last) k.0 (more ++ k.1) = (u, more, k.1, n.says, k.2, refl) in
@@ -92,6 +92,6 @@ module _ (old now : Option (List ℕ)) (s t u : Session) (lines all last : List 
           h.out ++ front,
           back ++ k.1,
           ap (λ x. h.out ++ (x ++ k.1)) is ∙ ap (λ x. h.out ++ x) (append_assoc front back k.1) ∙ sym (append_assoc h.out front (back ++ k.1)),
-          Appends-trans old now new h.out front h.wrote wrote,
+          Appends-trans old.written now.written new.written h.out front h.wrote wrote,
         );
       }

@@ -1,7 +1,6 @@
 -- What goes out in a session, line by line.
 use Rattle.std.specs.Prelude.{◌≡◌, ℕ, ◌+◌, List, [], ◌∷◌, ◌++◌, Option, Some, None, Result, Ok, Err}
-use Rattle.std.specs.Io.KnownBytes.{Appends}
-use Rattle.zy_io.specs.Streams.{WrotePrefix}
+use Rattle.zy_io.specs.Streams.{Sent, Sends, SendsPrefix, NoneFailed, OneFailed}
 use Rattle.zy_io.specs.declared.writing.TextFault.{TextFault}
 use Rattle.zy_io.specs.declared.writing.TextFault.TheVariants.{Write, Memory}
 use Rattle.zy_isa.specs.Scenario.{Scenario}
@@ -41,19 +40,19 @@ abbrev pub opened : Scenario → Session
 opened sc = record { scenario = sc; position = 0; stops = no_stops }
 
 -- the lines say a text, a prefix of which went out, where the bytes went from old to new
-pub record SaysPrefix (old new : Option (List ℕ)) (s : Session) (lines : List (List ℕ)) : Type 0 where
+pub record SaysPrefix (old new : Sent) (s : Session) (lines : List (List ℕ)) : Type 0 where
   pub session : Session
   pub out : List ℕ
   pub says : Says s lines session out
-  pub prefix : WrotePrefix old new out
+  pub prefix : SendsPrefix old new out
 
--- Calls that write went from the bytes old and the number of failures before to new and after.
-module _ (old new : Option (List ℕ)) (before after : ℕ) where
+-- Calls of a sink went from old to new.
+module _ (old new : Sent) where
   -- at Ok exactly what the lines say went out; else a prefix of it, and Write comes where a call failed or took none
   abbrev pub WroteSession : {X : Type 0} → Result X TextFault → Session → List (List ℕ) → Session → Type 0
-  WroteSession (Ok x) s lines t = (out : List ℕ) × Says s lines t out × Appends old new out × (after ≡ before)
-  WroteSession (Err Write) s lines t = SaysPrefix old new s lines × (after ≡ before + 1)
-  WroteSession (Err Memory) s lines t = SaysPrefix old new s lines × (after ≡ before)
+  WroteSession (Ok x) s lines t = (out : List ℕ) × Says s lines t out × Sends old new out × NoneFailed old new
+  WroteSession (Err Write) s lines t = SaysPrefix old new s lines × OneFailed old new
+  WroteSession (Err Memory) s lines t = SaysPrefix old new s lines × NoneFailed old new
 
   -- the same, in whatever session it ends
   abbrev pub WroteReplies : {X : Type 0} → Result X TextFault → Session → List (List ℕ) → Type 0

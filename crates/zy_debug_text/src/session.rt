@@ -18,8 +18,8 @@ pub fn write_session<K: Sink>(
     commands: &[u8],
     sink: &mut K,
 ) -> Result<(), TextFault>
-    requires { K.failures sink.old < u64.MAX }
-    ensures { WroteSession (K.written sink.old) (K.written sink.new) (K.failures sink.old) (K.failures sink.new) result
+    requires { (K.sent sink.old).failures < u64.MAX }
+    ensures { WroteSession (K.sent sink.old) (K.sent sink.new) result
         debugger.old (lines_of commands.now) debugger.new }
 {
     let mut words = Words::new();

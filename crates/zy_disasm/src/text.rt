@@ -15,9 +15,8 @@ pub fn write_text<K: Sink>(
     scenario: &Scenario,
     sink: &mut K,
 ) -> Result<(), TextFault>
-    requires { K.failures sink.old < u64.MAX }
-    ensures { Wrote (K.written sink.old) (K.written sink.new) (K.failures sink.old)
-        (K.failures sink.new) result (canon scenario.now) }
+    requires { (K.sent sink.old).failures < u64.MAX }
+    ensures { Wrote (K.sent sink.old) (K.sent sink.new) result (canon scenario.now) }
 {
     let mut line = LineBuffer::new(alloc);
     sections!(

@@ -1,6 +1,7 @@
 -- The scenario part of a listing gives that listing.
 use Rattle.std.proofs.Common.{◌≡◌, ◌∙◌, ℕ, List, Option, Result, Ok, Err, inl, inr, subst, sym}
 use Rattle.std.specs.Io.KnownBytes.{Appends}
+use Rattle.zy_io.specs.Streams.{Sent}
 use Rattle.zy_io.specs.Inputs.{reported_of}
 use Rattle.zy_io.specs.declared.writing.TextFault.{TextFault}
 use Rattle.zy_isa.specs.declared.choice.Choice.{Choice}
@@ -25,15 +26,15 @@ means_one : (text : List ℕ) (s t : Scenario) → Means text s → Means text t
 means_one text s t h k = sym (only_of text _ s (only text s h) h) ∙ only_of text _ t (only text s h) k
 
 -- a run of the canonical text of a scenario, where it is done, writes the listing of that scenario
-module _ (sc : Scenario) (h : IsScenario sc) (old new : Option (List ℕ)) (before after : ℕ) (machine : History) where
+module _ (sc : Scenario) (h : IsScenario sc) (old new : Sent) (machine : History) where
   -- what it wrote is a listing of a scenario that the text means
   wrote : (came : Result History TextFault) (s : Scenario) → Ok machine ≡ reported_of of_writing came → Means (canon sc) s
-      → WroteRun listing_run s old new before after came → Appends old new (listing_run sc)
+      → WroteRun listing_run s old new came → Appends old new (listing_run sc)
   wrote (Ok m) s e means due =
       subst (λ (t : Scenario). Appends old new (listing_run t)) (means_one (canon sc) s sc means (Means-canon sc h)) due.wrote.0
   wrote (Err f) s e means due = absurd (cc)
 
-  written_again : OnInput (WroteRun listing_run) Text (canon sc) old new before after (Ok machine) → Appends old new (listing_run sc)
+  written_again : OnInput (WroteRun listing_run) Text (canon sc) old new (Ok machine) → Appends old new (listing_run sc)
   written_again on = elim on [
     | inl done ↦ wrote done.came done.meant done.reported done.accepted.stands done.due
     | inr refused ↦ let e = refused.reported in absurd (cc)
@@ -44,8 +45,8 @@ scenario_again : (sc : Scenario) → IsScenario sc → RunsAgain sc
 scenario_again sc h = record {
   part = cut-run sc h;
   means = Means-canon sc h;
-  again = λ old new before after machine on. written_again sc h old new before after machine
-      (subst (λ t. OnInput (WroteRun listing_run) Text t old new before after (Ok machine)) (cut-run sc h) on);
+  again = λ old new machine on. written_again sc h old new machine
+      (subst (λ t. OnInput (WroteRun listing_run) Text t old new (Ok machine)) (cut-run sc h) on);
 }
 
 -- so does that of a scenario with its choices in another order

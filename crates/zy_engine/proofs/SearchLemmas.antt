@@ -4,6 +4,7 @@ use Rattle.std.proofs.Common.{length, min, take, Result, subst}
 use Rattle.std.proofs.Math.Seq.{take-length}
 use Rattle.std.specs.List.{flat_map}
 use Rattle.std.proofs.lemmas.List.{length-take, map-append, take_min}
+use Rattle.zy_io.specs.Streams.{Sent}
 use Rattle.zy_io.specs.Writing.{line_of, Wrote}
 use Rattle.zy_io.specs.declared.writing.TextFault.{TextFault}
 use Rattle.zy_io.specs.declared.writing.TextFault.TheVariants.{Write, Memory}
@@ -19,7 +20,7 @@ use Rattle.zy_search.specs.declared.sought.Sought.{Sought}
 use Rattle.zy_search.specs.Searches.{IsAnswer}
 use Rattle.zy_engine.specs.declared.searching.SearchOptions.{SearchOptions}
 use Rattle.zy_engine.specs.Searching.{history_of, taken, IsTextOf, WroteAnswer, WroteSome}
-use Rattle.zy_io.proofs.StreamLemmas.{WrotePrefix-none}
+use Rattle.zy_io.proofs.StreamLemmas.{SendsPrefix-none}
 use Rattle.zy_laws.proofs.walk.PlayPush.{length-entries}
 use Rattle.zy_machine.specs.Histories.{History}
 use Rattle.zy_machine.specs.Replays.{Follows}
@@ -81,23 +82,23 @@ pub nothing_known : (from : Option ℕ) (sc : Scenario) (q : Sought) → IsAnswe
 nothing_known from sc q = λ cs a lt. absurd (omega (arith, lt))
 
 -- where memory runs out before anything is written, nothing is known
-pub nothing_searched : (o : SearchOptions) (sc : Scenario) (q : Sought) (written : Option (List ℕ)) (failures : ℕ)
-    → WroteAnswer o q sc written written failures failures (Err Memory)
+pub nothing_searched : (o : SearchOptions) (sc : Scenario) (q : Sought) (sent : Sent)
+    → WroteAnswer o q sc sent sent (Err Memory)
 nothing_searched o sc q written failures =
     record {
       answer = Spent 0;
       is = nothing_known o.from sc q;
       returned = tt;
       due = tt;
-      wrote = record { text = []; is = refl; wrote = (WrotePrefix-none written [], refl) };
+      wrote = record { text = []; is = refl; wrote = (SendsPrefix-none written [], refl) };
     }
 
 -- what was written of a machine's first choices is written of those that are steps already taken
-pub wrote_first : (o : SearchOptions) (sc : Scenario) (answer : SearchAnswer) (old new : Option (List ℕ)) (before after : ℕ)
+pub wrote_first : (o : SearchOptions) (sc : Scenario) (answer : SearchAnswer) (old new : Sent)
     (result : Result (Unit {0}) TextFault) (h : History) → h ≡ history_of o.from sc
-    → WroteSome (IsTextOf o.wording h.scenario (take (length h.entries) h.scenario.choices) answer) old new before after result
-    → WroteSome (IsTextOf o.wording sc (taken o.from sc) answer) old new before after result
-wrote_first o sc answer old new before after result h e w =
+    → WroteSome (IsTextOf o.wording h.scenario (take (length h.entries) h.scenario.choices) answer) old new result
+    → WroteSome (IsTextOf o.wording sc (taken o.from sc) answer) old new result
+wrote_first o sc answer old new result h e w =
     let first : take (length h.entries) h.scenario.choices ≡ taken o.from sc =
     ap (λ (x : History). take (length x.entries) x.scenario.choices) e ∙ taken-first o.from sc in
     let is : IsTextOf o.wording sc (take (length h.entries) h.scenario.choices) answer w.text =
@@ -105,7 +106,7 @@ wrote_first o sc answer old new before after result h e w =
     record { text = w.text; is = subst (λ (cs : List Choice). IsTextOf o.wording sc cs answer w.text) first is; wrote = w.wrote }
 
 -- a fault says as much of what went out, whatever the call would have returned
-pub wrote_err : (X : Type 0) (old new : Option (List ℕ)) (before after : ℕ) (f : TextFault) (text : List ℕ)
-    → Wrote old new before after {X = Unit {0}} (Err f) text → Wrote old new before after {X = X} (Err f) text
-wrote_err X old new before after Write text w = w
-wrote_err X old new before after Memory text w = w
+pub wrote_err : (X : Type 0) (old new : Sent) (f : TextFault) (text : List ℕ)
+    → Wrote old new {X = Unit {0}} (Err f) text → Wrote old new {X = X} (Err f) text
+wrote_err X old new Write text w = w
+wrote_err X old new Memory text w = w

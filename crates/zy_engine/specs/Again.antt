@@ -1,6 +1,6 @@
 -- A listing whose scenario part gives that listing.
 use Rattle.std.specs.Prelude.{◌≡◌, ℕ, List, Option, Ok}
-use Rattle.std.specs.Io.KnownBytes.{Appends}
+use Rattle.zy_io.specs.Streams.{Sent, Sends}
 use Rattle.zy_text.specs.Canon.{canon}
 use Rattle.zy_isa.specs.Scenario.{Scenario}
 use Rattle.zy_text.specs.Text.{Means}
@@ -15,6 +15,6 @@ use Rattle.zy_engine.specs.OnInput.{OnInput}
 pub record RunsAgain (sc : Scenario) : Type 0 where
   pub part : cut (listing_run sc) ≡ canon sc
   pub means : Means (canon sc) sc
-  pub again : (old new : Option (List ℕ)) (before after : ℕ) (machine : History)
-      → OnInput (WroteRun listing_run) Text (cut (listing_run sc)) old new before after (Ok machine)
-      → Appends old new (listing_run sc)
+  pub again : (old new : Sent) (machine : History)
+      → OnInput (WroteRun listing_run) Text (cut (listing_run sc)) old new (Ok machine)
+      → Sends old new (listing_run sc)

@@ -1,7 +1,6 @@
 -- What the engine of a check does: its input is to be the listing of the scenario at its head.
 use Rattle.std.specs.Prelude.{◌≡◌, ◌+◌, ℕ, List, Option, Result, Ok, Err, IfOk}
-use Rattle.std.specs.Io.KnownBytes.{Appends}
-use Rattle.zy_io.specs.Streams.{WrotePrefix}
+use Rattle.zy_io.specs.Streams.{Sent, Sends, SendsPrefix, NoneFailed, OneFailed}
 use Rattle.zy_io.specs.Writing.{line_of}
 use Rattle.zy_io.specs.declared.writing.TextFault.{TextFault}
 use Rattle.zy_io.specs.declared.writing.TextFault.TheVariants as writing
@@ -19,21 +18,21 @@ use Rattle.zy_engine.specs.OnInput.{OnInput}
 abbrev pub verdict_line : Verdict → List ℕ
 verdict_line v = line_of (verdict_text v)
 
--- A call that writes a text went from the bytes old and the number of failures before to new and after.
-module _ (old new : Option (List ℕ)) (before after : ℕ) where
+-- A call that writes a text went from old to new.
+module _ (old new : Sent) where
   -- at Ok all of the text went out; at Write a prefix of it, since a call failed or took none; at Memory nothing
   abbrev pub WroteOrNothing : {X : Type 0} → Result X TextFault → List ℕ → Type 0
-  WroteOrNothing (Ok x) text = Appends old new text × (after ≡ before)
-  WroteOrNothing (Err writing.Write) text = WrotePrefix old new text × (after ≡ before + 1)
-  WroteOrNothing (Err writing.Memory) text = (new ≡ old) × (after ≡ before)
+  WroteOrNothing (Ok x) text = Sends old new text × NoneFailed old new
+  WroteOrNothing (Err writing.Write) text = SendsPrefix old new text × OneFailed old new
+  WroteOrNothing (Err writing.Memory) text = new ≡ old
 
 -- a call that writes the verdict on an input and the listing of a scenario, and returns it with the machine of the run
-pub record WroteVerdict (input : List ℕ) (sc : Scenario) (old new : Option (List ℕ)) (before after : ℕ)
+pub record WroteVerdict (input : List ℕ) (sc : Scenario) (old new : Sent)
     (result : Result CheckedListing TextFault) : Type 0 where
   pub returned : IfOk result (λ c. c.verdict ≡ verdict input (listing_run sc))
   pub machine : IfOk result (λ c. c.machine ≡ run_of sc)
-  pub wrote : WroteOrNothing old new before after result (verdict_line (verdict input (listing_run sc)))
+  pub wrote : WroteOrNothing old new result (verdict_line (verdict input (listing_run sc)))
 
 -- it is due for the scenario part of the input
-abbrev pub Checks : List ℕ → Option (List ℕ) → Option (List ℕ) → ℕ → ℕ → Result CheckedListing BenchFault → Type 0
+abbrev pub Checks : List ℕ → Sent → Sent → Result CheckedListing BenchFault → Type 0
 Checks input = OnInput (WroteVerdict input) Text (cut input)

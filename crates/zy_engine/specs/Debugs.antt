@@ -1,5 +1,6 @@
 -- What the engine of a debugger does: its input is a scenario text, and commands below it.
 use Rattle.std.specs.Prelude.{ℕ, List, Option, Result, drop, length}
+use Rattle.zy_io.specs.Streams.{Sent}
 use Rattle.zy_io.specs.declared.writing.TextFault.{TextFault}
 use Rattle.zy_isa.specs.Scenario.{Scenario}
 use Rattle.zy_text.specs.Words.{lines_of}
@@ -21,12 +22,12 @@ max_ring = 64
 abbrev pub commands_of : List ℕ → List (List ℕ)
 commands_of input = lines_of (drop (length (cut input)) input)
 
--- The writer's bytes went from old to new, and the number of its calls that failed from before to after.
+-- The calls of the sink went from old to new.
 module _ {X : Type 0} (input : List ℕ) where
   -- the replies to the commands went out, in a session on the scenario: all of them, or a prefix
-  abbrev pub WroteRepliesTo : Scenario → Option (List ℕ) → Option (List ℕ) → ℕ → ℕ → Result X TextFault → Type 0
-  WroteRepliesTo sc old new before after result = WroteReplies old new before after result (opened sc) (commands_of input)
+  abbrev pub WroteRepliesTo : Scenario → Sent → Sent → Result X TextFault → Type 0
+  WroteRepliesTo sc old new result = WroteReplies old new result (opened sc) (commands_of input)
 
   -- they are due where the scenario part is accepted
-  abbrev pub Debugs : Option (List ℕ) → Option (List ℕ) → ℕ → ℕ → Result X BenchFault → Type 0
+  abbrev pub Debugs : Sent → Sent → Result X BenchFault → Type 0
   Debugs = OnInput WroteRepliesTo Text (cut input)

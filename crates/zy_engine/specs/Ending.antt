@@ -1,5 +1,6 @@
 -- What the engine writes that ends the migration of a scenario.
 use Rattle.std.specs.Prelude.{◌≡◌, ◌<◌, ◌+◌, ◌++◌, ℕ, List, [], Option, Result, IfOk, length}
+use Rattle.zy_io.specs.Streams.{Sent}
 use Rattle.zy_io.specs.declared.writing.TextFault.{TextFault}
 use Rattle.zy_isa.specs.Limits.{max_choices}
 use Rattle.zy_isa.specs.Scenario.{Scenario}
@@ -22,8 +23,8 @@ IsEnding w sc Written text = IsWorded w (reordered sc (sc.choices ++ way_of sc))
 IsEnding w sc NoRoom text = (text ≡ []) × (max_choices < length sc.choices + length (way_of sc))
 
 -- a call that writes a text of an answer, which at Ok is the one that is returned
-pub record WroteEnding (w : Wording) (sc : Scenario) (old new : Option (List ℕ)) (before after : ℕ)
+pub record WroteEnding (w : Wording) (sc : Scenario) (old new : Sent)
     (result : Result Ending TextFault) : Type 0 where
   pub ending : Ending
   pub returned : IfOk result (λ e. e ≡ ending)
-  pub wrote : WroteSome (IsEnding w sc ending) old new before after result
+  pub wrote : WroteSome (IsEnding w sc ending) old new result

@@ -1,5 +1,6 @@
 -- What the engine of a search writes.
 use Rattle.std.specs.Prelude.{◌≡◌, ◌++◌, ◌⊎◌, ℕ, List, [], Option, Some, None, Result, IfOk, take}
+use Rattle.zy_io.specs.Streams.{Sent}
 use Rattle.zy_io.specs.Writing.{Wrote}
 use Rattle.zy_io.specs.declared.writing.TextFault.{TextFault}
 use Rattle.zy_text.specs.Canon.{canon}
@@ -43,17 +44,17 @@ IsTextOf w sc choices Nowhere text = text ≡ []
 IsTextOf w sc choices (Spent n) text = text ≡ []
 
 -- a call that writes some text like this
-pub record WroteSome {X : Type 0} (Is : List ℕ → Type 0) (old new : Option (List ℕ)) (before after : ℕ)
+pub record WroteSome {X : Type 0} (Is : List ℕ → Type 0) (old new : Sent)
     (result : Result X TextFault) : Type 0 where
   pub text : List ℕ
   pub is : Is text
-  pub wrote : Wrote old new before after result text
+  pub wrote : Wrote old new result text
 
 -- a call that writes a text of an answer, which at Ok is the one that is returned
-pub record WroteAnswer (o : SearchOptions) (q : Sought) (sc : Scenario) (old new : Option (List ℕ))
-    (before after : ℕ) (result : Result SearchReport TextFault) : Type 0 where
+pub record WroteAnswer (o : SearchOptions) (q : Sought) (sc : Scenario) (old new : Sent)
+    (result : Result SearchReport TextFault) : Type 0 where
   pub answer : SearchAnswer
   pub is : IsAnswer (history_of o.from sc) q answer
   pub returned : IfOk result (λ r. r.answer ≡ answer)
   pub due : IfOk result (λ r. IsDue (history_of o.from sc) q o.most r.answer)
-  pub wrote : WroteSome (IsTextOf o.wording sc (taken o.from sc) answer) old new before after result
+  pub wrote : WroteSome (IsTextOf o.wording sc (taken o.from sc) answer) old new result

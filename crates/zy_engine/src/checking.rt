@@ -28,9 +28,8 @@ fn line_of(alloc: Global, verdict: Verdict) -> Result<LineBuffer, AllocError>
 
 /// Writes the words of a verdict, once they are all there.
 fn tell<K: Sink>(alloc: Global, verdict: Verdict, sink: &mut K) -> Result<(), TextFault>
-    requires { K.failures sink.old < u64.MAX }
-    ensures { WroteOrNothing (K.written sink.old) (K.written sink.new) (K.failures sink.old)
-        (K.failures sink.new) result (verdict_line verdict) }
+    requires { (K.sent sink.old).failures < u64.MAX }
+    ensures { WroteOrNothing (K.sent sink.old) (K.sent sink.new) result (verdict_line verdict) }
 {
     let line = line_of(alloc, verdict)?;
     sink.put_all(line.as_bytes())?;
@@ -52,10 +51,9 @@ fn write_verdict<K: Sink>(
     machine: &Machine,
     sink: &mut K,
 ) -> Result<Verdict, TextFault>
-    requires { K.failures sink.old < u64.MAX }
+    requires { (K.sent sink.old).failures < u64.MAX }
     ensures returned { IfOk result (λ v. v ≡ verdict input.now (listing_of machine.now)) }
-    ensures wrote { WroteOrNothing (K.written sink.old) (K.written sink.new) (K.failures sink.old)
-        (K.failures sink.new) result (verdict_line (verdict input.now (listing_of machine.now))) }
+    ensures wrote { WroteOrNothing (K.sent sink.old) (K.sent sink.new) result (verdict_line (verdict input.now (listing_of machine.now))) }
 {
     let verdict = compare(alloc, input, machine)?;
     tell(alloc, verdict, sink)?;
@@ -69,9 +67,8 @@ fn check_run<K: Sink>(
     scenario: Scenario,
     sink: &mut K,
 ) -> Result<CheckedListing, TextFault>
-    requires { K.failures sink.old < u64.MAX }
-    ensures { WroteVerdict input.now scenario (K.written sink.old) (K.written sink.new) (K.failures sink.old)
-        (K.failures sink.new) result }
+    requires { (K.sent sink.old).failures < u64.MAX }
+    ensures { WroteVerdict input.now scenario (K.sent sink.old) (K.sent sink.new) result }
 {
     let machine = Machine::run_all(alloc, scenario)?;
     match write_verdict(alloc, input, &machine, sink) {
@@ -91,8 +88,8 @@ pub fn check_input<K: Sink>(
     input: &[u8],
     sink: &mut K,
 ) -> Result<CheckedListing, BenchFault>
-    requires { K.failures sink.old < u64.MAX }
-    ensures { Checks input.now (K.written sink.old) (K.written sink.new) (K.failures sink.old) (K.failures sink.new) result }
+    requires { (K.sent sink.old).failures < u64.MAX }
+    ensures { Checks input.now (K.sent sink.old) (K.sent sink.new) result }
 {
     let (part, _) = split_scenario(input);
     let scenario = accept(alloc, Format::Text, part)?;
@@ -107,8 +104,8 @@ pub fn check_bytes<S: Source, K: Sink>(
     sink: &mut K,
     input: &mut Vec<u8>,
 ) -> Result<CheckedListing, BenchFault>
-    requires { (S.failures source.old < u64.MAX) × (K.failures sink.old < u64.MAX) }
-    ensures { let at = streams S.left S.failures S.given K.written K.failures in
+    requires { ((S.pulled source.old).failures < u64.MAX) × ((K.sent sink.old).failures < u64.MAX) }
+    ensures { let at = streams S.pulled K.sent in
         ReadsInput of_reading Checks (at source.old sink.old) (at source.new sink.new) result }
 {
     *input = read_all(alloc, source)?;

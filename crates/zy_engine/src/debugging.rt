@@ -31,8 +31,8 @@ fn write_replies<K: Sink>(
     sink: &mut K,
 ) -> Result<(), TextFault>
     requires every { 1 ≤ every }
-    requires sink { K.failures sink.old < u64.MAX }
-    ensures { WroteReplies (K.written sink.old) (K.written sink.new) (K.failures sink.old) (K.failures sink.new) result
+    requires sink { (K.sent sink.old).failures < u64.MAX }
+    ensures { WroteReplies (K.sent sink.old) (K.sent sink.new) result
         (opened scenario) (lines_of commands.now) }
 {
     let mut debugger = Debugger::open(alloc, scenario, every, ring)?;
@@ -54,8 +54,8 @@ pub fn debug_input<K: Sink>(
     sink: &mut K,
 ) -> Result<(), BenchFault>
     requires every { 1 ≤ every }
-    requires failures { K.failures sink.old < u64.MAX }
-    ensures { Debugs input.now (K.written sink.old) (K.written sink.new) (K.failures sink.old) (K.failures sink.new) result }
+    requires failures { (K.sent sink.old).failures < u64.MAX }
+    ensures { Debugs input.now (K.sent sink.old) (K.sent sink.new) result }
 {
     let (part, commands) = split_scenario(input);
     let scenario = accept(alloc, Format::Text, part)?;
@@ -76,8 +76,8 @@ pub fn debug_bytes<S: Source, K: Sink>(
     requires every_most { every ≤ max_every }
     requires ring_least { 1 ≤ ring }
     requires ring_most { ring ≤ max_ring }
-    requires failures { (S.failures source.old < u64.MAX) × (K.failures sink.old < u64.MAX) }
-    ensures { let at = streams S.left S.failures S.given K.written K.failures in
+    requires failures { ((S.pulled source.old).failures < u64.MAX) × ((K.sent sink.old).failures < u64.MAX) }
+    ensures { let at = streams S.pulled K.sent in
         ReadsInput of_reading Debugs (at source.old sink.old) (at source.new sink.new) result }
 {
     *input = read_all(alloc, source)?;

@@ -37,9 +37,8 @@ fn write_way_out<K: Sink>(
     sink: &mut K,
 ) -> Result<Ending, TextFault>
     requires ran { machine.now ≡ history_of None machine.now.scenario }
-    requires calls { K.failures sink.old < u64.MAX }
-    ensures { WroteEnding wording machine.now.scenario (K.written sink.old) (K.written sink.new)
-        (K.failures sink.old) (K.failures sink.new) result }
+    requires calls { (K.sent sink.old).failures < u64.MAX }
+    ensures { WroteEnding wording machine.now.scenario (K.sent sink.old) (K.sent sink.new) result }
 {
     match way_out(alloc, machine) {
         Ok(choices) => {
@@ -60,9 +59,8 @@ fn write_ending<K: Sink>(
     scenario: Scenario,
     sink: &mut K,
 ) -> Result<Ending, TextFault>
-    requires { K.failures sink.old < u64.MAX }
-    ensures { WroteEnding wording scenario (K.written sink.old) (K.written sink.new) (K.failures sink.old)
-        (K.failures sink.new) result }
+    requires { (K.sent sink.old).failures < u64.MAX }
+    ensures { WroteEnding wording scenario (K.sent sink.old) (K.sent sink.new) result }
 {
     let machine = Machine::run_all(alloc, scenario)?;
     let ending = write_way_out(alloc, wording, text, &machine, sink);
@@ -79,9 +77,8 @@ pub fn end_input<K: Sink>(
     input: &[u8],
     sink: &mut K,
 ) -> Result<Ending, BenchFault>
-    requires { K.failures sink.old < u64.MAX }
-    ensures { OnInput (WroteEnding wording) format input.now (K.written sink.old) (K.written sink.new)
-        (K.failures sink.old) (K.failures sink.new) result }
+    requires { (K.sent sink.old).failures < u64.MAX }
+    ensures { OnInput (WroteEnding wording) format input.now (K.sent sink.old) (K.sent sink.new) result }
 {
     let scenario = accept(alloc, format, input)?;
     let ending = write_ending(alloc, wording, input, scenario, sink)?;
@@ -97,8 +94,8 @@ pub fn end_bytes<S: Source, K: Sink>(
     sink: &mut K,
     input: &mut Vec<u8>,
 ) -> Result<Ending, BenchFault>
-    requires { (S.failures source.old < u64.MAX) × (K.failures sink.old < u64.MAX) }
-    ensures { let at = streams S.left S.failures S.given K.written K.failures in
+    requires { ((S.pulled source.old).failures < u64.MAX) × ((K.sent sink.old).failures < u64.MAX) }
+    ensures { let at = streams S.pulled K.sent in
         ReadsInput of_reading (OnInput (WroteEnding wording) format) (at source.old sink.old)
         (at source.new sink.new) result }
 {

@@ -24,9 +24,8 @@ pub fn run_input<K: Sink>(
     input: &[u8],
     sink: &mut K,
 ) -> Result<Machine, BenchFault>
-    requires { K.failures sink.old < u64.MAX }
-    ensures { OnInput (WroteRun (shown_of shown)) format input.now (K.written sink.old) (K.written sink.new)
-        (K.failures sink.old) (K.failures sink.new) result }
+    requires { (K.sent sink.old).failures < u64.MAX }
+    ensures { OnInput (WroteRun (shown_of shown)) format input.now (K.sent sink.old) (K.sent sink.new) result }
 {
     let scenario = accept(alloc, format, input)?;
     let machine = shown.write(alloc, scenario, sink)?;
@@ -41,9 +40,8 @@ pub fn convert_input<K: Sink>(
     input: &[u8],
     sink: &mut K,
 ) -> Result<(), BenchFault>
-    requires { K.failures sink.old < u64.MAX }
-    ensures { OnInput (WroteOutput (output_of output)) format input.now (K.written sink.old) (K.written sink.new)
-        (K.failures sink.old) (K.failures sink.new) result }
+    requires { (K.sent sink.old).failures < u64.MAX }
+    ensures { OnInput (WroteOutput (output_of output)) format input.now (K.sent sink.old) (K.sent sink.new) result }
 {
     let scenario = accept(alloc, format, input)?;
     output.write(alloc, scenario, sink)?;
@@ -59,8 +57,8 @@ pub fn run_bytes<S: Source, K: Sink>(
     sink: &mut K,
     input: &mut Vec<u8>,
 ) -> Result<Machine, BenchFault>
-    requires { (S.failures source.old < u64.MAX) × (K.failures sink.old < u64.MAX) }
-    ensures { let at = streams S.left S.failures S.given K.written K.failures in
+    requires { ((S.pulled source.old).failures < u64.MAX) × ((K.sent sink.old).failures < u64.MAX) }
+    ensures { let at = streams S.pulled K.sent in
         ReadsInput of_reading (OnInput (WroteRun (shown_of shown)) format) (at source.old sink.old)
         (at source.new sink.new) result }
 {
@@ -77,8 +75,8 @@ pub fn convert_bytes<S: Source, K: Sink>(
     sink: &mut K,
     input: &mut Vec<u8>,
 ) -> Result<(), BenchFault>
-    requires { (S.failures source.old < u64.MAX) × (K.failures sink.old < u64.MAX) }
-    ensures { let at = streams S.left S.failures S.given K.written K.failures in
+    requires { ((S.pulled source.old).failures < u64.MAX) × ((K.sent sink.old).failures < u64.MAX) }
+    ensures { let at = streams S.pulled K.sent in
         ReadsInput of_reading (OnInput (WroteOutput (output_of output)) format) (at source.old sink.old)
         (at source.new sink.new) result }
 {

@@ -34,9 +34,8 @@ pub fn find_input<K: Sink>(
     sought: &Sought,
     sink: &mut K,
 ) -> Result<usize, TextFault>
-    requires { K.failures sink.old < u64.MAX }
-    ensures { WroteOutput (positions_text sought.now) input.now.scenario (K.written sink.old) (K.written sink.new)
-        (K.failures sink.old) (K.failures sink.new) result }
+    requires { (K.sent sink.old).failures < u64.MAX }
+    ensures { WroteOutput (positions_text sought.now) input.now.scenario (K.sent sink.old) (K.sent sink.new) result }
 {
     let scenario = input.scenario.copy(alloc)?;
     let positions = along(alloc, scenario, sought)?;

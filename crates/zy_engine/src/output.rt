@@ -35,9 +35,8 @@ impl RunFormat {
         scenario: Scenario,
         sink: &mut K,
     ) -> Result<Machine, TextFault>
-        requires { K.failures sink.old < u64.MAX }
-        ensures { WroteRun (shown_of self) scenario (K.written sink.old) (K.written sink.new) (K.failures sink.old)
-            (K.failures sink.new) result }
+        requires { (K.sent sink.old).failures < u64.MAX }
+        ensures { WroteRun (shown_of self) scenario (K.sent sink.old) (K.sent sink.new) result }
     {
         match self {
             RunFormat::Listing => write_run(alloc, scenario, sink),
@@ -65,9 +64,8 @@ impl SourceFormat {
         scenario: Scenario,
         sink: &mut K,
     ) -> Result<(), TextFault>
-        requires { K.failures sink.old < u64.MAX }
-        ensures { WroteOutput (output_of self) scenario (K.written sink.old) (K.written sink.new) (K.failures sink.old)
-            (K.failures sink.new) result }
+        requires { (K.sent sink.old).failures < u64.MAX }
+        ensures { WroteOutput (output_of self) scenario (K.sent sink.old) (K.sent sink.new) result }
     {
         match self {
             SourceFormat::Image => write_image(alloc, &scenario, sink),
@@ -78,9 +76,8 @@ impl SourceFormat {
 
 /// Writes its image, or a prefix of it.
 fn write_image<K: Sink>(alloc: Global, scenario: &Scenario, sink: &mut K) -> Result<(), TextFault>
-    requires { K.failures sink.old < u64.MAX }
-    ensures { WroteOutput (output_of Image) scenario.now (K.written sink.old) (K.written sink.new) (K.failures sink.old)
-        (K.failures sink.new) result }
+    requires { (K.sent sink.old).failures < u64.MAX }
+    ensures { WroteOutput (output_of Image) scenario.now (K.sent sink.old) (K.sent sink.new) result }
 {
     let image = save(alloc, scenario)?;
     sink.put_all(image.as_slice())?;

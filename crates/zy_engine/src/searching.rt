@@ -138,8 +138,8 @@ fn write_canonical<K: Sink>(
     more: &[Choice],
     sink: &mut K,
 ) -> Result<(), TextFault>
-    requires { (kept ≤ length scenario.now.choices) × (K.failures sink.old < u64.MAX) }
-    ensures { Wrote (K.written sink.old) (K.written sink.new) (K.failures sink.old) (K.failures sink.new) result
+    requires { (kept ≤ length scenario.now.choices) × ((K.sent sink.old).failures < u64.MAX) }
+    ensures { Wrote (K.sent sink.old) (K.sent sink.new) result
         (canon (reordered scenario.now (take kept scenario.now.choices ++ more.now))) }
 {
     let mut line = LineBuffer::new(alloc);
@@ -162,9 +162,9 @@ fn write_own<K: Sink>(
     more: &[Choice],
     sink: &mut K,
 ) -> Result<(), TextFault>
-    requires { (kept ≤ length scenario.now.choices) × (K.failures sink.old < u64.MAX) }
+    requires { (kept ≤ length scenario.now.choices) × ((K.sent sink.old).failures < u64.MAX) }
     ensures { WroteSome (IsWorded Own (reordered scenario.now (take kept scenario.now.choices ++ more.now)))
-        (K.written sink.old) (K.written sink.new) (K.failures sink.old) (K.failures sink.new) result }
+        (K.sent sink.old) (K.sent sink.new) result }
 {
     match own_text(alloc, text, scenario, kept, more)? {
         Some(found) => {
@@ -186,10 +186,10 @@ pub fn write_found<K: Sink>(
     sink: &mut K,
 ) -> Result<(), TextFault>
     requires taken { length machine.now.entries ≤ length machine.now.scenario.choices }
-    requires calls { K.failures sink.old < u64.MAX }
+    requires calls { (K.sent sink.old).failures < u64.MAX }
     ensures { WroteSome (IsWorded wording (reordered machine.now.scenario
         (take (length machine.now.entries) machine.now.scenario.choices ++ more.now)))
-        (K.written sink.old) (K.written sink.new) (K.failures sink.old) (K.failures sink.new) result }
+        (K.sent sink.old) (K.sent sink.new) result }
 {
     let (scenario, kept) = (machine.scenario(), machine.len());
     match wording {
@@ -208,10 +208,10 @@ fn write_answer<K: Sink>(
     sink: &mut K,
 ) -> Result<(), TextFault>
     requires taken { length machine.now.entries ≤ length machine.now.scenario.choices }
-    requires calls { K.failures sink.old < u64.MAX }
+    requires calls { (K.sent sink.old).failures < u64.MAX }
     ensures { WroteSome (IsTextOf wording machine.now.scenario
         (take (length machine.now.entries) machine.now.scenario.choices) answer.now)
-        (K.written sink.old) (K.written sink.new) (K.failures sink.old) (K.failures sink.new) result }
+        (K.sent sink.old) (K.sent sink.new) result }
 {
     match answer {
         SearchAnswer::Found(path) => write_found(alloc, wording, text, machine, path, sink),
@@ -233,9 +233,8 @@ pub fn search_input<R: Threads + Sync, K: Sink, W: Watch>(
     watch: &mut W,
 ) -> Result<SearchReport, TextFault>
     requires taken { machine.now ≡ history_of question.options.from input.now.scenario }
-    requires calls { K.failures sink.old < u64.MAX }
-    ensures { WroteAnswer question.options question.sought input.now.scenario (K.written sink.old)
-        (K.written sink.new) (K.failures sink.old) (K.failures sink.new) result }
+    requires calls { (K.sent sink.old).failures < u64.MAX }
+    ensures { WroteAnswer question.options question.sought input.now.scenario (K.sent sink.old) (K.sent sink.new) result }
 {
     let Question { options, sought } = question;
     let limits = Limits {

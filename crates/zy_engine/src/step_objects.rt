@@ -31,8 +31,8 @@ impl Lines for StepObjects<'_> {
 
 /// Writes the object of each step.
 fn write_entries<K: Sink>(alloc: Global, entries: &[Entry], sink: &mut K) -> Result<(), TextFault>
-    requires { K.failures sink.old < u64.MAX }
-    ensures { Wrote (K.written sink.old) (K.written sink.new) (K.failures sink.old) (K.failures sink.new) result
+    requires { (K.sent sink.old).failures < u64.MAX }
+    ensures { Wrote (K.sent sink.old) (K.sent sink.new) result
         (flat_map line_of (map object_text entries.now)) }
 {
     let mut line = LineBuffer::new(alloc);
@@ -47,9 +47,8 @@ pub(crate) fn write_objects<K: Sink>(
     scenario: Scenario,
     sink: &mut K,
 ) -> Result<Machine, TextFault>
-    requires { K.failures sink.old < u64.MAX }
-    ensures { WroteRun objects_text scenario (K.written sink.old) (K.written sink.new) (K.failures sink.old)
-        (K.failures sink.new) result }
+    requires { (K.sent sink.old).failures < u64.MAX }
+    ensures { WroteRun objects_text scenario (K.sent sink.old) (K.sent sink.new) result }
 {
     let machine = Machine::run_all(alloc, scenario)?;
     match write_entries(alloc, machine.entries(), sink) {

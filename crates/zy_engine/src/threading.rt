@@ -27,9 +27,8 @@ fn write_threads<R: Threads + Wait + Sync, G: Gate + Sync, K: Sink>(
     gate: &G,
     sink: &mut K,
 ) -> Result<Machine, TextFault>
-    requires { K.failures sink.old < u64.MAX }
-    ensures { WroteMerge scenario (K.written sink.old) (K.written sink.new) (K.failures sink.old)
-        (K.failures sink.new) result }
+    requires { (K.sent sink.old).failures < u64.MAX }
+    ensures { WroteMerge scenario (K.sent sink.old) (K.sent sink.new) result }
 {
     let machine = run_threads(rt, alloc, scenario, gate)?;
     match write_listing(alloc, &machine, sink) {
@@ -51,9 +50,8 @@ pub fn threads_input<K: Sink, R: Threads + Wait + Sync, G: Gate + Sync>(
     sink: &mut K,
     gate: &G,
 ) -> Result<Machine, BenchFault>
-    requires { K.failures sink.old < u64.MAX }
-    ensures { OnInput WroteMerge format input.now (K.written sink.old) (K.written sink.new)
-        (K.failures sink.old) (K.failures sink.new) result }
+    requires { (K.sent sink.old).failures < u64.MAX }
+    ensures { OnInput WroteMerge format input.now (K.sent sink.old) (K.sent sink.new) result }
 {
     let scenario = accept(alloc, format, input)?;
     let machine = write_threads(rt, alloc, scenario, gate, sink)?;
@@ -70,8 +68,8 @@ pub fn threads_bytes<S: Source, K: Sink, R: Threads + Wait + Sync, G: Gate + Syn
     input: &mut Vec<u8>,
     gate: &G,
 ) -> Result<Machine, BenchFault>
-    requires { (S.failures source.old < u64.MAX) × (K.failures sink.old < u64.MAX) }
-    ensures { let at = streams S.left S.failures S.given K.written K.failures in
+    requires { ((S.pulled source.old).failures < u64.MAX) × ((K.sent sink.old).failures < u64.MAX) }
+    ensures { let at = streams S.pulled K.sent in
         ReadsInput of_reading (OnInput WroteMerge format) (at source.old sink.old) (at source.new sink.new) result }
 {
     *input = read_all(alloc, source)?;

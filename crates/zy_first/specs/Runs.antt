@@ -1,5 +1,6 @@
 -- What a run of a scenario text does.
 use Rattle.std.specs.Prelude.{◌≡◌, ℕ, List, Option, None, Some, Result}
+use Rattle.zy_io.specs.Streams.{Sent}
 use Rattle.zy_io.specs.Inputs.{IsAccepted, OnInput}
 use Rattle.zy_io.specs.declared.reading.ReadFault.{ReadFault}
 use Rattle.zy_io.specs.declared.reading.ReadFault.TheVariants as reading
@@ -56,5 +57,5 @@ IsFaultOf text Memory = Unit {0}
 IsFaultOf text _ = ⊥
 
 -- the listing of the scenario that the text means is written, or the text is refused
-abbrev pub Lists : List ℕ → Option (List ℕ) → Option (List ℕ) → ℕ → ℕ → Result History RunFault → Type 0
+abbrev pub Lists : List ℕ → Sent → Sent → Result History RunFault → Type 0
 Lists text = OnInput (IsTextOf text) (IsFaultOf text) of_writing (WroteRun listing_run)

@@ -48,7 +48,7 @@ fn list_to<S: Source, W: Write>(
     sink: &mut Buffered<CountingWriter<W>>,
     input: &mut Vec<u8>,
 ) -> Result<(), RunFault>
-    requires source { S.failures source.old < u64.MAX }
+    requires source { (S.pulled source.old).failures < u64.MAX }
     requires sink { sink.old.sink.1 < u64.MAX }
 {
     let machine = run(alloc, source, sink, input)?;

@@ -25,8 +25,8 @@ fn accept(alloc: Global, text: &[u8]) -> Result<Scenario, RunFault>
 /// Makes the choices of the scenario that a text means, writes its listing, and gives the machine that has made them. Nothing
 /// is written before the text is accepted.
 fn run_text<K: Sink>(alloc: Global, text: &[u8], sink: &mut K) -> Result<Machine, RunFault>
-    requires { K.failures sink.old < u64.MAX }
-    ensures run { Lists text.now (K.written sink.old) (K.written sink.new) (K.failures sink.old) (K.failures sink.new) result }
+    requires { (K.sent sink.old).failures < u64.MAX }
+    ensures run { Lists text.now (K.sent sink.old) (K.sent sink.new) result }
     ensures owned { IfOk result (λ m. OwnedThroughout m.scenario m.scenario.choices) }
     ensures strict { IfOk result (λ m. StrictThroughout m.scenario m.scenario.choices) }
     ensures serial { IfOk result (λ m. SerialThroughout m.scenario m.scenario.choices) }
@@ -45,8 +45,8 @@ pub fn run<S: Source, K: Sink>(
     sink: &mut K,
     input: &mut Vec<u8>,
 ) -> Result<Machine, RunFault>
-    requires { (S.failures source.old < u64.MAX) × (K.failures sink.old < u64.MAX) }
-    ensures run { let at = streams S.left S.failures S.given K.written K.failures in
+    requires { ((S.pulled source.old).failures < u64.MAX) × ((K.sent sink.old).failures < u64.MAX) }
+    ensures run { let at = streams S.pulled K.sent in
         ReadsInput of_reading Lists (at source.old sink.old) (at source.new sink.new) result }
     // At every point of the run each page is in one place, the run is strictly serializable, under `held` the database
     // is that of the commits one by one, and the migration can be ended.

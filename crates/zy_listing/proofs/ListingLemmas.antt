@@ -1,5 +1,5 @@
 -- The places of the lines, and the whole listing.
-use Rattle.std.proofs.Common.{◌≡◌, ◌∙◌, ℕ, zero, suc, ◌+◌, ◌<◌, List, [], ◌∷◌, ◌++◌, refl, sym, ap, subst, arith, length, get_or, map, Bool}
+use Rattle.std.proofs.Common.{◌≡◌, ◌∙◌, ℕ, zero, suc, ◌+◌, ◌<◌, List, [], ◌∷◌, ◌++◌, refl, ap, arith, length, get_or, map, Bool}
 use Rattle.std.specs.List.{flat_map}
 use Rattle.zy_text.specs.Canon.{canon}
 use Rattle.zy_io.specs.Writing.{line_of}

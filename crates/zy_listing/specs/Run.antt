@@ -1,5 +1,6 @@
 -- What a run of the program gives, and what a call that writes something of it does.
-use Rattle.std.specs.Prelude.{◌≡◌, ℕ, List, Option, Result, IfOk}
+use Rattle.std.specs.Prelude.{◌≡◌, ℕ, List, Result, IfOk}
+use Rattle.zy_io.specs.Streams.{Sent}
 use Rattle.zy_io.specs.Writing.{Wrote}
 use Rattle.zy_io.specs.declared.writing.TextFault.{TextFault}
 use Rattle.zy_isa.specs.Scenario.{Scenario}
@@ -26,13 +27,13 @@ run_of sc = record {
 
 -- A call that writes something of a scenario. The writer's bytes went from old to new, and the number of its calls that failed
 -- from before to after.
-module _ {X : Type 0} (output : Scenario → List ℕ) (sc : Scenario) (old new : Option (List ℕ)) (before after : ℕ) where
+module _ {X : Type 0} (output : Scenario → List ℕ) (sc : Scenario) (old new : Sent) where
   -- at Ok all of it went out; else a prefix of it
   abbrev pub WroteOutput : Result X TextFault → Type 0
-  WroteOutput result = Wrote old new before after result (output sc)
+  WroteOutput result = Wrote old new result (output sc)
 
 -- and that makes its choices: it returns the machine that has made them
-pub record WroteRun (output : Scenario → List ℕ) (sc : Scenario) (old new : Option (List ℕ)) (before after : ℕ)
+pub record WroteRun (output : Scenario → List ℕ) (sc : Scenario) (old new : Sent)
     (result : Result History TextFault) : Type 0 where
-  pub wrote : WroteOutput output sc old new before after result
+  pub wrote : WroteOutput output sc old new result
   pub machine : IfOk result (λ m. m ≡ run_of sc)

@@ -22,8 +22,8 @@ pub(crate) fn write_listing_as<K: Sink>(
     same: bool,
     sink: &mut K,
 ) -> Result<(), TextFault>
-    requires { K.failures sink.old < u64.MAX }
-    ensures { Wrote (K.written sink.old) (K.written sink.new) (K.failures sink.old) (K.failures sink.new) result
+    requires { (K.sent sink.old).failures < u64.MAX }
+    ensures { Wrote (K.sent sink.old) (K.sent sink.new) result
         (listing machine.now.scenario (choices_of machine.now.entries) same) }
 {
     let mut line = LineBuffer::new(alloc);
@@ -47,8 +47,8 @@ pub fn write_listing<K: Sink>(
     machine: &Machine,
     sink: &mut K,
 ) -> Result<(), TextFault>
-    requires { K.failures sink.old < u64.MAX }
-    ensures { Wrote (K.written sink.old) (K.written sink.new) (K.failures sink.old) (K.failures sink.new) result
+    requires { (K.sent sink.old).failures < u64.MAX }
+    ensures { Wrote (K.sent sink.old) (K.sent sink.new) result
         (listing_of machine.now) }
 {
     let agrees = same(alloc, machine)?;

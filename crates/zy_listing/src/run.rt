@@ -15,9 +15,8 @@ pub fn write_run<K: Sink>(
     scenario: Scenario,
     sink: &mut K,
 ) -> Result<Machine, TextFault>
-    requires { K.failures sink.old < u64.MAX }
-    ensures run { WroteRun listing_run scenario (K.written sink.old) (K.written sink.new) (K.failures sink.old)
-        (K.failures sink.new) result }
+    requires { (K.sent sink.old).failures < u64.MAX }
+    ensures run { WroteRun listing_run scenario (K.sent sink.old) (K.sent sink.new) result }
     // At every point of the run each page is in one place, the run is strictly serializable, under `held` the database
     // is that of the commits one by one, and the migration can be ended.
     ensures owned { OwnedThroughout scenario scenario.choices }

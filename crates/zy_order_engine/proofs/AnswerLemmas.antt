@@ -1,6 +1,7 @@
 -- What the parts of the engine make together.
 use Rattle.std.proofs.Common.{ℕ, List, [], Option, None, Ok, Err, inl, inr, refl, sym, arith}
 use Rattle.std.proofs.Common.{append-nil}
+use Rattle.zy_io.specs.Streams.{Sent}
 use Rattle.zy_io.specs.declared.writing.TextFault.{TextFault}
 use Rattle.zy_io.specs.declared.writing.TextFault.TheVariants.{Write, Memory}
 use Rattle.zy_isa.specs.Scenario.{Scenario}
@@ -31,18 +32,18 @@ use Rattle.zy_order_engine.specs.Missing.{AreGapsIn}
 -- what was written of it, where a call failed, is a part of it
 pub wrote_failed : (o : OrderOptions) (sc : Scenario) (lines : List NumberedLine) (gaps : Gaps) (a : OrderAnswer) (old new : Option (List ℕ))
     (before after : ℕ) (f : TextFault) → AreGapsIn o.gap lines gaps → IsAnswer (history_of None sc) (steps lines) gaps a
-    → WroteSome {X = Unit {0}} (IsTextOf o.wording sc a) old new before after (Err f)
-    → WroteOrder (IsAnswerOf o sc lines) old new before after (Err f)
-wrote_failed o sc lines gaps a old new before after Write are is wrote =
+    → WroteSome {X = Unit {0}} (IsTextOf o.wording sc a) old new (Err f)
+    → WroteOrder (IsAnswerOf o sc lines) old new (Err f)
+wrote_failed o sc lines gaps a old new Write are is wrote =
     (inr (a, wrote.text, record { gaps = gaps; are = are; answer = is; is = wrote.is }, wrote.wrote.0), wrote.wrote.1)
-wrote_failed o sc lines gaps a old new before after Memory are is wrote =
+wrote_failed o sc lines gaps a old new Memory are is wrote =
     (inr (a, wrote.text, record { gaps = gaps; are = are; answer = is; is = wrote.is }, wrote.wrote.0), wrote.wrote.1)
 
 -- ---- an input
 
-module _ (o : OrderOptions) (input : List ℕ) (old : Option (List ℕ)) (before : ℕ) where
+module _ (o : OrderOptions) (input : List ℕ) (old : Sent) where
   -- its scenario part is rejected
-  pub refused_text : (f : BenchFault) → IsTextFault (cut input) f → Answers o input old old before before (Err (Bench f))
+  pub refused_text : (f : BenchFault) → IsTextFault (cut input) f → Answers o input old old (Err (Bench f))
   refused_text (bench.Input r) h =
       record { answered = tt; part = inl refl; fault = inl h; quiet = λ q. refl; writes = omega arith }
   refused_text (bench.Image f) h = absurd h
@@ -54,7 +55,7 @@ module _ (o : OrderOptions) (input : List ℕ) (old : Option (List ℕ)) (before
 
   -- what is below it is
   pub refused_below : (sc : Scenario) → Means (cut input) sc → (f : BelowFault) → ReadsBelow o.logs o.gap (cut input) (below input) sc (Err f)
-      → Answers o input old old before before (Err (of_below f))
+      → Answers o input old old (Err (of_below f))
   refused_below sc means (misread.Log r) says = record {
     answered = tt;
     part = inl refl;
@@ -83,8 +84,8 @@ module _ (o : OrderOptions) (input : List ℕ) (old : Option (List ℕ)) (before
     part_to new (inr p) = inr (p.0, p.1, answer_to p.0 p.1 p.2, p.3)
 
     -- a text of the answer went out
-    pub wrote_to : (new : Option (List ℕ)) (after : ℕ) (r : OrderedLogs) → WroteOrder (IsAnswerOf o sc lines) old new before after (Ok r.report)
-        → Answers o input old new before after (Ok r)
+    pub wrote_to : (new : Option (List ℕ)) (after : ℕ) (r : OrderedLogs) → WroteOrder (IsAnswerOf o sc lines) old new (Ok r.report)
+        → Answers o input old new (Ok r)
     wrote_to new after r wrote =
         let text = wrote.0.0 in
         let is = answer_to r.report.answer text wrote.0.1 in
@@ -97,8 +98,8 @@ module _ (o : OrderOptions) (input : List ℕ) (old : Option (List ℕ)) (before
         }
 
     -- or a part of one did
-    pub failed_to : (new : Option (List ℕ)) (after : ℕ) (f : TextFault) → WroteOrder (IsAnswerOf o sc lines) old new before after (Err f)
-        → Answers o input old new before after (Err (Bench (of_writing f)))
+    pub failed_to : (new : Option (List ℕ)) (after : ℕ) (f : TextFault) → WroteOrder (IsAnswerOf o sc lines) old new (Err f)
+        → Answers o input old new (Err (Bench (of_writing f)))
     failed_to new after Write wrote = record {
       answered = tt;
       part = part_to new wrote.0;

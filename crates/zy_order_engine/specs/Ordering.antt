@@ -3,8 +3,7 @@ use Rattle.std.specs.Prelude.{◌≡◌, ◌==◌, ◌≤◌, ◌+◌, ◌-◌, 
 use Rattle.std.specs.Prelude.{count_by, drop, length}
 use Rattle.std.specs.declared.vec.Vec.{Vec}
 use Rattle.std.specs.declared.alloc.Global.{Global}
-use Rattle.std.specs.Io.KnownBytes.{Appends}
-use Rattle.zy_io.specs.Streams.{WrotePrefix}
+use Rattle.zy_io.specs.Streams.{Sent, Sends, SendsPrefix, NoneFailed, OneFailed}
 use Rattle.zy_io.specs.declared.writing.TextFault.{TextFault}
 use Rattle.zy_io.specs.declared.writing.TextFault.TheVariants.{Write, Memory}
 use Rattle.zy_isa.specs.Limits.{max_choices}
@@ -139,22 +138,21 @@ pub record HasRun (input : List ℕ) (m : History) : Type 0 where
 -- ---- what goes out
 
 -- nothing went out, or a prefix of a text of an answer
-abbrev pub WrotePart : (OrderAnswer → List ℕ → Type 0) → Option (List ℕ) → Option (List ℕ) → Type 0
-WrotePart Is old new = (new ≡ old) ⊎ ((a : OrderAnswer) × (text : List ℕ) × Is a text × WrotePrefix old new text)
+abbrev pub WrotePart : (OrderAnswer → List ℕ → Type 0) → Sent → Sent → Type 0
+WrotePart Is old new = (new.written ≡ old.written) ⊎ ((a : OrderAnswer) × (text : List ℕ) × Is a text × SendsPrefix old new text)
 
 -- a text of this answer went out
-abbrev pub WroteText : (OrderAnswer → List ℕ → Type 0) → Option (List ℕ) → Option (List ℕ) → OrderAnswer → Type 0
-WroteText Is old new a = (text : List ℕ) × Is a text × Appends old new text
+abbrev pub WroteText : (OrderAnswer → List ℕ → Type 0) → Sent → Sent → OrderAnswer → Type 0
+WroteText Is old new a = (text : List ℕ) × Is a text × Sends old new text
 
 -- a call that writes a text of an answer: at Ok all of it, and the answer is the one that is returned
-abbrev pub WroteOrder : (OrderAnswer → List ℕ → Type 0) → Option (List ℕ) → Option (List ℕ) → ℕ → ℕ
-    → Result OrderReport TextFault → Type 0
-WroteOrder Is old new before after (Ok r) = WroteText Is old new r.answer × (after ≡ before)
-WroteOrder Is old new before after (Err Write) = WrotePart Is old new × (after ≡ before + 1)
-WroteOrder Is old new before after (Err Memory) = WrotePart Is old new × (after ≡ before)
+abbrev pub WroteOrder : (OrderAnswer → List ℕ → Type 0) → Sent → Sent → Result OrderReport TextFault → Type 0
+WroteOrder Is old new (Ok r) = WroteText Is old new r.answer × NoneFailed old new
+WroteOrder Is old new (Err Write) = WrotePart Is old new × OneFailed old new
+WroteOrder Is old new (Err Memory) = WrotePart Is old new × NoneFailed old new
 
 -- the engine, on an input in hand
-pub record Answers (o : OrderOptions) (input : List ℕ) (old new : Option (List ℕ)) (before after : ℕ)
+pub record Answers (o : OrderOptions) (input : List ℕ) (old new : Sent)
     (result : Result OrderedLogs OrderFault) : Type 0 where
   -- at Ok the answer is one for what the input means, and exactly a text of it went out
   pub answered : IfOk result (λ r. WroteText (IsAnswerTo o input) old new r.report.answer)
@@ -163,6 +161,6 @@ pub record Answers (o : OrderOptions) (input : List ℕ) (old new : Option (List
   -- a rejected input is reported by its first fault
   pub fault : IfErr result (IsFaultOf o input)
   -- before the input is accepted nothing is written
-  pub quiet : IfErr result (λ f. IsQuiet f → new ≡ old)
+  pub quiet : IfErr result (λ f. IsQuiet f → new.written ≡ old.written)
   -- each fault of the writer is one failed call
-  pub writes : after ≡ before + failed_writes result
+  pub writes : new.failures ≡ old.failures + failed_writes result

@@ -21,9 +21,8 @@ pub fn write_behind<K: Sink>(
     sink: &mut K,
 ) -> Result<(), TextFault>
     requires ran { machine.now ≡ history_of None machine.now.scenario }
-    requires calls { K.failures sink.old < u64.MAX }
-    ensures { WroteBehind wording choices.now machine.now.scenario (K.written sink.old) (K.written sink.new)
-        (K.failures sink.old) (K.failures sink.new) result }
+    requires calls { (K.sent sink.old).failures < u64.MAX }
+    ensures { WroteBehind wording choices.now machine.now.scenario (K.sent sink.old) (K.sent sink.new) result }
 {
     write_found(alloc, wording, text, machine, choices, sink)
 }

@@ -33,9 +33,9 @@ fn write_answer<K: Sink>(
     sink: &mut K,
 ) -> Result<(), TextFault>
     requires ran { machine.now ≡ history_of None machine.now.scenario }
-    requires calls { K.failures sink.old < u64.MAX }
+    requires calls { (K.sent sink.old).failures < u64.MAX }
     ensures { WroteSome (IsTextOf wording machine.now.scenario answer.now)
-        (K.written sink.old) (K.written sink.new) (K.failures sink.old) (K.failures sink.new) result }
+        (K.sent sink.old) (K.sent sink.new) result }
 {
     match answer {
         OrderAnswer::Found(path) => write_found(alloc, wording, text, machine, path, sink),
@@ -73,9 +73,9 @@ fn order_from<K: Sink, W: Watch>(
 ) -> Result<OrderReport, TextFault>
     requires ran { run.machine.now ≡ history_of None run.machine.now.scenario }
     requires input { CanFollow run.machine.now options.gap run.lines.now }
-    requires calls { K.failures sink.old < u64.MAX }
+    requires calls { (K.sent sink.old).failures < u64.MAX }
     ensures { WroteOrder (IsAnswerOf options run.entry.machine.now.scenario run.entry.lines.now)
-        (K.written sink.old) (K.written sink.new) (K.failures sink.old) (K.failures sink.new) result }
+        (K.sent sink.old) (K.sent sink.new) result }
 {
     let steps = steps(alloc, run.lines)?;
     let gaps = gaps(alloc, options.gap, run.lines)?;
@@ -112,9 +112,8 @@ pub fn order_input<K: Sink, W: Watch>(
     watch: &mut W,
 ) -> Result<OrderedLogs, OrderFault>
     requires few { length input.now ≤ max_input }
-    requires calls { K.failures sink.old < u64.MAX }
-    ensures answers { Answers options input.now (K.written sink.old) (K.written sink.new) (K.failures sink.old)
-        (K.failures sink.new) result }
+    requires calls { (K.sent sink.old).failures < u64.MAX }
+    ensures answers { Answers options input.now (K.sent sink.old) (K.sent sink.new) result }
     ensures run { IfOk result (λ r. HasRun input.now r.machine) }
 {
     let (text, below) = split_scenario(input);
@@ -148,8 +147,8 @@ pub fn order_bytes<S: Source, K: Sink, W: Watch>(
     input: &mut Vec<u8>,
     watch: &mut W,
 ) -> Result<OrderedLogs, OrderFault>
-    requires { (S.failures source.old < u64.MAX) × (K.failures sink.old < u64.MAX) }
-    ensures answers { let at = streams S.left S.failures S.given K.written K.failures in
+    requires { ((S.pulled source.old).failures < u64.MAX) × ((K.sent sink.old).failures < u64.MAX) }
+    ensures answers { let at = streams S.pulled K.sent in
         ReadsInput of_reading (Answers options) (at source.old sink.old) (at source.new sink.new) result }
     ensures run { IfOk result (λ r. HasRun input.new.items r.machine) }
 {

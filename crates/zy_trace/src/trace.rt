@@ -66,9 +66,9 @@ fn write_opening<K: Sink>(
     sink: &mut K,
     line: &mut LineBuffer,
 ) -> Result<(), TextFault>
-    requires failures { K.failures sink.old < u64.MAX }
+    requires failures { (K.sent sink.old).failures < u64.MAX }
     requires opened { machine.now ≡ ran machine.now.scenario [] }
-    ensures { Wrote (K.written sink.old) (K.written sink.new) (K.failures sink.old) (K.failures sink.new) result
+    ensures { Wrote (K.sent sink.old) (K.sent sink.new) result
         (canon machine.now.scenario ++ flat_map line_of (opening_lines (opening machine.now.scenario))) }
 {
     let scenario = machine.scenario();
@@ -92,10 +92,10 @@ fn write_step<K: Sink>(
     sink: &mut K,
     line: &mut LineBuffer,
 ) -> Result<(), TextFault>
-    requires failures { K.failures sink.old < u64.MAX }
+    requires failures { (K.sent sink.old).failures < u64.MAX }
     requires alike { before.old ≡ now.old }
     requires more { length now.old.entries < length now.old.scenario.choices }
-    ensures wrote { Wrote (K.written sink.old) (K.written sink.new) (K.failures sink.old) (K.failures sink.new) result
+    ensures wrote { Wrote (K.sent sink.old) (K.sent sink.new) result
         (flat_map line_of (next_lines form now.old)) }
     ensures alike { OnOk result (before.new ≡ now.new) }
     ensures made { OnOk result (now.new ≡ with_next now.old) }
@@ -114,10 +114,10 @@ fn write_steps<K: Sink>(
     sink: &mut K,
     line: &mut LineBuffer,
 ) -> Result<(), TextFault>
-    requires failures { K.failures sink.old < u64.MAX }
+    requires failures { (K.sent sink.old).failures < u64.MAX }
     requires opened { now.old ≡ ran now.old.scenario [] }
     requires alike { before.old ≡ now.old }
-    ensures wrote { Wrote (K.written sink.old) (K.written sink.new) (K.failures sink.old) (K.failures sink.new) result
+    ensures wrote { Wrote (K.sent sink.old) (K.sent sink.new) result
         (flat_map line_of (steps_lines form now.old.scenario 1 (opening now.old.scenario) now.old.scenario.choices)) }
     ensures made { OnOk result (now.new ≡ ran now.old.scenario now.old.scenario.choices) }
 {
@@ -136,9 +136,9 @@ fn write_all_steps<K: Sink>(
     sink: &mut K,
     line: &mut LineBuffer,
 ) -> Result<(), TextFault>
-    requires failures { K.failures sink.old < u64.MAX }
+    requires failures { (K.sent sink.old).failures < u64.MAX }
     requires opened { machine.old ≡ ran machine.old.scenario [] }
-    ensures wrote { Wrote (K.written sink.old) (K.written sink.new) (K.failures sink.old) (K.failures sink.new) result
+    ensures wrote { Wrote (K.sent sink.old) (K.sent sink.new) result
         (flat_map line_of (steps_lines form machine.old.scenario 1
         (opening machine.old.scenario) machine.old.scenario.choices)) }
     ensures made { OnOk result (machine.new ≡ ran machine.old.scenario machine.old.scenario.choices) }
@@ -158,8 +158,8 @@ fn write_end<K: Sink>(
     sink: &mut K,
     line: &mut LineBuffer,
 ) -> Result<(), TextFault>
-    requires { K.failures sink.old < u64.MAX }
-    ensures { Wrote (K.written sink.old) (K.written sink.new) (K.failures sink.old) (K.failures sink.new) result
+    requires { (K.sent sink.old).failures < u64.MAX }
+    ensures { Wrote (K.sent sink.old) (K.sent sink.new) result
         (end_text machine.now) }
 {
     let agrees = same(alloc, machine)?;
@@ -173,9 +173,9 @@ fn write_rest<K: Sink>(
     sink: &mut K,
     line: &mut LineBuffer,
 ) -> Result<(), TextFault>
-    requires failures { K.failures sink.old < u64.MAX }
+    requires failures { (K.sent sink.old).failures < u64.MAX }
     requires opened { machine.old ≡ ran machine.old.scenario [] }
-    ensures wrote { Wrote (K.written sink.old) (K.written sink.new) (K.failures sink.old) (K.failures sink.new) result
+    ensures wrote { Wrote (K.sent sink.old) (K.sent sink.new) result
         (flat_map line_of (steps_lines Lines machine.old.scenario 1
         (opening machine.old.scenario) machine.old.scenario.choices)
         ++ end_text (ran machine.old.scenario machine.old.scenario.choices)) }
@@ -187,9 +187,9 @@ fn write_rest<K: Sink>(
 
 /// Makes the choices of the scenario of a machine that has made none, and writes its trace.
 fn write_run<K: Sink>(alloc: Global, machine: &mut Machine, sink: &mut K) -> Result<(), TextFault>
-    requires failures { K.failures sink.old < u64.MAX }
+    requires failures { (K.sent sink.old).failures < u64.MAX }
     requires opened { machine.old ≡ ran machine.old.scenario [] }
-    ensures wrote { Wrote (K.written sink.old) (K.written sink.new) (K.failures sink.old) (K.failures sink.new) result
+    ensures wrote { Wrote (K.sent sink.old) (K.sent sink.new) result
         (spec.trace machine.old.scenario) }
     ensures made { OnOk result (machine.new ≡ ran machine.old.scenario machine.old.scenario.choices) }
 {
@@ -204,8 +204,8 @@ pub fn write_trace<K: Sink>(
     scenario: Scenario,
     sink: &mut K,
 ) -> Result<Machine, TextFault>
-    requires { K.failures sink.old < u64.MAX }
-    ensures wrote { Wrote (K.written sink.old) (K.written sink.new) (K.failures sink.old) (K.failures sink.new) result
+    requires { (K.sent sink.old).failures < u64.MAX }
+    ensures wrote { Wrote (K.sent sink.old) (K.sent sink.new) result
         (spec.trace scenario) }
     ensures machine { IfOk result (λ m. m ≡ record {
       scenario = scenario;
@@ -230,8 +230,8 @@ pub fn write_objects<K: Sink>(
     scenario: Scenario,
     sink: &mut K,
 ) -> Result<Machine, TextFault>
-    requires { K.failures sink.old < u64.MAX }
-    ensures wrote { Wrote (K.written sink.old) (K.written sink.new) (K.failures sink.old) (K.failures sink.new) result
+    requires { (K.sent sink.old).failures < u64.MAX }
+    ensures wrote { Wrote (K.sent sink.old) (K.sent sink.new) result
         (traced_objects scenario) }
     ensures machine { IfOk result (λ m. m ≡ record {
       scenario = scenario;

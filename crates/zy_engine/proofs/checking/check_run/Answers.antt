@@ -19,27 +19,23 @@ pub returns-in-Ok : goal.returns-in-Ok
 returns-in-Ok g c =
     let ran = c.in_ok-machine.ensures.run in
     let same = ap (verdict c.args.input.now) (listing-whole c.args.scenario c.in_ok-machine.machine ran) in
-    let old = g.K.Sink.written c.args.sink.now in
-    let new = g.K.Sink.written c.write_verdict.new.sink in
-    let before = g.K.Sink.failures c.args.sink.now in
-    let after = g.K.Sink.failures c.write_verdict.new.sink in
+    let old = g.K.Sink.sent c.args.sink.now in
+    let new = g.K.Sink.sent c.write_verdict.new.sink in
     record {
       returned = c.in-Ok.ensures.returned ∙ same;
       machine = ran;
-      wrote = subst (λ (v : Verdict). WroteOrNothing old new before after {X = Verdict} (Ok c.in-Ok.verdict) (verdict_line v)) same c.in-Ok.ensures.wrote;
+      wrote = subst (λ (v : Verdict). WroteOrNothing old new {X = Verdict} (Ok c.in-Ok.verdict) (verdict_line v)) same c.in-Ok.ensures.wrote;
     }
 
 pub returns-in-Err : goal.returns-in-Err
 returns-in-Err g c =
     let ran = c.in_ok-machine.ensures.run in
     let same = ap (verdict c.args.input.now) (listing-whole c.args.scenario c.in_ok-machine.machine ran) in
-    let old = g.K.Sink.written c.args.sink.now in
-    let new = g.K.Sink.written c.write_verdict.new.sink in
-    let before = g.K.Sink.failures c.args.sink.now in
-    let after = g.K.Sink.failures c.write_verdict.new.sink in
+    let old = g.K.Sink.sent c.args.sink.now in
+    let new = g.K.Sink.sent c.write_verdict.new.sink in
     record {
       returned = tt;
       machine = tt;
-      wrote = fault_says Verdict CheckedListing old new before after c.in-Err.fault (verdict_line (verdict c.args.input.now (listing_run c.args.scenario)))
-          (subst (λ (v : Verdict). WroteOrNothing old new before after {X = Verdict} (Err c.in-Err.fault) (verdict_line v)) same c.in-Err.ensures.wrote);
+      wrote = fault_says Verdict CheckedListing old new c.in-Err.fault (verdict_line (verdict c.args.input.now (listing_run c.args.scenario)))
+          (subst (λ (v : Verdict). WroteOrNothing old new {X = Verdict} (Err c.in-Err.fault) (verdict_line v)) same c.in-Err.ensures.wrote);
     }

@@ -15,12 +15,11 @@ pub returns-in_err-debugger : goal.returns-in_err-debugger
 returns-in_err-debugger g c =
     let p = err_from_is_err_and c.from_residual.result c.from_residual.ensures.1 in
     let start = opened c.args.scenario in
-    (start, rw p.1 (rw p.2 (nothing_said (g.K.Sink.written c.args.sink.now) start (lines_of c.args.commands.now), refl)))
+    (start, rw p.1 (rw p.2 (nothing_said (g.K.Sink.sent c.args.sink.now) start (lines_of c.args.commands.now), refl)))
 
 pub returns : goal.returns
 returns g c = (
   c.write_session-written.new.debugger,
-  subst (λ s. WroteSession (g.K.Sink.written c.args.sink.now) (g.K.Sink.written c.write_session-written.new.sink) (g.K.Sink.failures c.args.sink.now)
-      (g.K.Sink.failures c.write_session-written.new.sink) c.write_session-written.result s (lines_of c.args.commands.now) c.write_session-written.new.debugger)
+  subst (λ s. WroteSession (g.K.Sink.sent c.args.sink.now) (g.K.Sink.sent c.write_session-written.new.sink) c.write_session-written.result s (lines_of c.args.commands.now) c.write_session-written.new.debugger)
       c.in_ok-debugger.ensures c.write_session-written.ensures,
 )

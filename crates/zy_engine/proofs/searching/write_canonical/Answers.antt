@@ -6,7 +6,6 @@ use Rattle.zy_engine.proofs.searching.write_canonical.Goals as goal
 
 pub returns : goal.returns
 returns g c =
-    let Told : List ℕ → Type 0 = λ text. Wrote (g.K.Sink.written c.args.sink.now) (g.K.Sink.written c.write.new.sink) (g.K.Sink.failures c.args.sink.now)
-    (g.K.Sink.failures c.write.new.sink) c.write.result text in
+    let Told : List ℕ → Type 0 = λ text. Wrote (g.K.Sink.sent c.args.sink.now) (g.K.Sink.sent c.write.new.sink) c.write.result text in
     subst Told (canon-with c.args.scenario.now (take c.args.kept c.args.scenario.now.choices) c.args.more.now)
     (rw c.choices.ensures.value at c.write.ensures)

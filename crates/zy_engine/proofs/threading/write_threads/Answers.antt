@@ -12,8 +12,7 @@ returns-in-Err g c =
     let machine = c.in_ok-machine.machine in
     let order = choices_of machine.entries in
     let ran = c.in_ok-machine.ensures in
-    let Told : List ℕ → Type 0 = λ text. Wrote (g.K.Sink.written c.args.sink.now) (g.K.Sink.written c.write_listing.new.sink)
-    (g.K.Sink.failures c.args.sink.now) (g.K.Sink.failures c.write_listing.new.sink) {X = Unit {0}} (Err c.in-Err.fault) text in
+    let Told : List ℕ → Type 0 = λ text. Wrote (g.K.Sink.sent c.args.sink.now) (g.K.Sink.sent c.write_listing.new.sink) {X = Unit {0}} (Err c.in-Err.fault) text in
     record {
       order = order;
       merge = ran.merge;
@@ -26,8 +25,7 @@ returns-in-Ok g c =
     let machine = c.in_ok-machine.machine in
     let order = choices_of machine.entries in
     let ran = c.in_ok-machine.ensures in
-    let Told : List ℕ → Type 0 = λ text. Wrote (g.K.Sink.written c.args.sink.now) (g.K.Sink.written c.write_listing.new.sink)
-    (g.K.Sink.failures c.args.sink.now) (g.K.Sink.failures c.write_listing.new.sink) {X = Unit {0}} (Ok c.in-Ok.field-0) text in
+    let Told : List ℕ → Type 0 = λ text. Wrote (g.K.Sink.sent c.args.sink.now) (g.K.Sink.sent c.write_listing.new.sink) {X = Unit {0}} (Ok c.in-Ok.field-0) text in
     record {
       order = order;
       merge = ran.merge;

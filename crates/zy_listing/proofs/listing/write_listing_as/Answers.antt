@@ -6,7 +6,6 @@ use Rattle.zy_listing.proofs.listing.write_listing_as.Goals as goal
 
 pub returns : goal.returns
 returns g c =
-    let Told : List ℕ → Type 0 = λ text. Wrote (g.K.Sink.written c.args.sink.now) (g.K.Sink.written c.write.new.sink) (g.K.Sink.failures c.args.sink.now)
-    (g.K.Sink.failures c.write.new.sink) c.write.result text in
+    let Told : List ℕ → Type 0 = λ text. Wrote (g.K.Sink.sent c.args.sink.now) (g.K.Sink.sent c.write.new.sink) c.write.result text in
     subst Told (listing-lines c.args.machine.now c.args.same c.entries-entries.ensures.replay)
     (rw (c.scenario.ensures.value, c.entries-entries.ensures.value) at c.write.ensures)

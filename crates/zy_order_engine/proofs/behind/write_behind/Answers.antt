@@ -11,9 +11,7 @@ write_found-requires-clause-taken g c = all_few c.args.machine.now c.requires.ra
 
 pub returns : goal.returns
 returns g c =
-    let written = g.K.Sink.written in
-    let failures = g.K.Sink.failures in
+    let sent = g.K.Sink.sent in
     let sc = c.args.machine.now.scenario in
     let w = c.args.wording in
-    subst (λ cs. WroteSome (IsWorded w (reordered sc (cs ++ c.args.choices.now))) (written c.args.sink.now) (written c.write_found.new.sink)
-    (failures c.args.sink.now) (failures c.write_found.new.sink) c.write_found.result) (ran_all c.args.machine.now c.requires.ran) c.write_found.ensures
+    subst (λ cs. WroteSome (IsWorded w (reordered sc (cs ++ c.args.choices.now))) (sent c.args.sink.now) (sent c.write_found.new.sink) c.write_found.result) (ran_all c.args.machine.now c.requires.ran) c.write_found.ensures

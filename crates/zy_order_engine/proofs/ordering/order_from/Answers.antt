@@ -34,10 +34,8 @@ returns-in_err-report g c =
 
 pub returns-in_err-write_answer : goal.returns-in_err-write_answer
 returns-in_err-write_answer g c =
-    let old = g.K.Sink.written c.args.sink.now in
-    let new = g.K.Sink.written c.write_answer.new.sink in
-    let before = g.K.Sink.failures c.args.sink.now in
-    let after = g.K.Sink.failures c.write_answer.new.sink in
+    let old = g.K.Sink.sent c.args.sink.now in
+    let new = g.K.Sink.sent c.write_answer.new.sink in
     let o = c.args.options in
     let numbered = c.args.run.lines.now in
     let gaps = c.in_ok-gaps.gaps in
@@ -48,14 +46,12 @@ returns-in_err-write_answer g c =
     (subst (λ (ls : List LogLine). IsAnswer c.args.run.machine.now ls gaps a) lines c.in_ok-report.ensures) in
     let wrote = c.in_err-write_answer.ensures in
     let p = err_from_is_err_and c.from_residual-in_err-write_answer.result c.from_residual-in_err-write_answer.ensures.1 in
-    rw (p.1, p.2) (wrote_failed o c.args.run.machine.now.scenario numbered gaps a old new before after fault c.in_ok-gaps.ensures is wrote)
+    rw (p.1, p.2) (wrote_failed o c.args.run.machine.now.scenario numbered gaps a old new fault c.in_ok-gaps.ensures is wrote)
 
 pub returns : goal.returns
 returns g c =
-    let old = g.K.Sink.written c.args.sink.now in
-    let new = g.K.Sink.written c.write_answer.new.sink in
-    let before = g.K.Sink.failures c.args.sink.now in
-    let after = g.K.Sink.failures c.write_answer.new.sink in
+    let old = g.K.Sink.sent c.args.sink.now in
+    let new = g.K.Sink.sent c.write_answer.new.sink in
     let o = c.args.options in
     let numbered = c.args.run.lines.now in
     let gaps = c.in_ok-gaps.gaps in

@@ -32,7 +32,7 @@ returns-in_err-scenario-clause-answers g c =
     let fault = c.in_err-scenario.field-0.0 in
     let p = err_from_is_err_and c.from_residual.result c.from_residual.ensures.1 in
     rw (p.1, p.2) (
-    refused_text c.args.options input (g.K.Sink.written c.args.sink.now) (g.K.Sink.failures c.args.sink.now) fault
+    refused_text c.args.options input (g.K.Sink.sent c.args.sink.now) fault
     (subst (λ t. IsTextFault t fault) text c.in_err-scenario.ensures.fault)
     )
 
@@ -45,7 +45,7 @@ returns-in_err-lines-clause-answers g c =
     let fault = c.in_err-lines.field-0.0 in
     let p = err_from_is_err_and c.from_residual-in_err-lines.result c.from_residual-in_err-lines.ensures.1 in
     rw (p.1, p.2) (
-    refused_below c.args.options input (g.K.Sink.written c.args.sink.now) (g.K.Sink.failures c.args.sink.now) sc
+    refused_below c.args.options input (g.K.Sink.sent c.args.sink.now) sc
     (subst (λ t. Means t sc) text c.in_ok-scenario.ensures.accepted.stands) fault (reads_cut c.args.options.logs c.args.options.gap input c.split_scenario.result.0.now c.split_scenario.result.1.now sc (Err fault) text under c.in_err-lines.ensures)
     )
 
@@ -53,7 +53,7 @@ pub returns-in_err-machine-clause-answers : goal.returns-in_err-machine-clause-a
 returns-in_err-machine-clause-answers g c =
     let p = err_from_is_err_and c.from_residual-in_err-machine.result c.from_residual-in_err-machine.ensures.1 in
     rw (p.1, p.2, c.in_err-machine.ensures.fault) (
-    refused_text c.args.options c.args.input.now (g.K.Sink.written c.args.sink.now) (g.K.Sink.failures c.args.sink.now) Memory tt
+    refused_text c.args.options c.args.input.now (g.K.Sink.sent c.args.sink.now) Memory tt
     )
 
 pub returns-in-Ok-clause-answers : goal.returns-in-Ok-clause-answers
@@ -64,14 +64,12 @@ returns-in-Ok-clause-answers g c =
     let under = c.split_scenario.ensures.below in
     let means = subst (λ t. Means t sc) text c.in_ok-scenario.ensures.accepted.stands in
     let says = reads_cut c.args.options.logs c.args.options.gap input c.split_scenario.result.0.now c.split_scenario.result.1.now sc (Ok c.in_ok-lines.lines) text under c.in_ok-lines.ensures in
-    let old = g.K.Sink.written c.args.sink.now in
-    let new = g.K.Sink.written c.order_from.new.sink in
-    let before = g.K.Sink.failures c.args.sink.now in
-    let after = g.K.Sink.failures c.order_from.new.sink in
+    let old = g.K.Sink.sent c.args.sink.now in
+    let new = g.K.Sink.sent c.order_from.new.sink in
     let ordered : OrderedLogs = record { report = c.in-Ok.report; machine = c.in_ok-machine.machine; lines = c.in_ok-lines.lines } in
     wrote_to c.args.options input old before sc c.in_ok-lines.lines.items means says new after ordered
-    (subst (λ (ls : List NumberedLine). WroteOrder (IsAnswerOf c.args.options sc ls) old new before after (Ok c.in-Ok.report)) c.deref.ensures.value
-    (subst (λ (s : Scenario). WroteOrder (IsAnswerOf c.args.options s c.deref.result.now) old new before after (Ok c.in-Ok.report))
+    (subst (λ (ls : List NumberedLine). WroteOrder (IsAnswerOf c.args.options sc ls) old new (Ok c.in-Ok.report)) c.deref.ensures.value
+    (subst (λ (s : Scenario). WroteOrder (IsAnswerOf c.args.options s c.deref.result.now) old new (Ok c.in-Ok.report))
     (ap (λ (h : History). h.scenario) c.in_ok-machine.ensures.run) c.in-Ok.ensures))
 
 pub returns-in-Ok-clause-run : goal.returns-in-Ok-clause-run
@@ -91,14 +89,12 @@ returns-in-Err-clause-answers g c =
     let under = c.split_scenario.ensures.below in
     let means = subst (λ t. Means t sc) text c.in_ok-scenario.ensures.accepted.stands in
     let says = reads_cut c.args.options.logs c.args.options.gap input c.split_scenario.result.0.now c.split_scenario.result.1.now sc (Ok c.in_ok-lines.lines) text under c.in_ok-lines.ensures in
-    let old = g.K.Sink.written c.args.sink.now in
-    let new = g.K.Sink.written c.order_from.new.sink in
-    let before = g.K.Sink.failures c.args.sink.now in
-    let after = g.K.Sink.failures c.order_from.new.sink in
+    let old = g.K.Sink.sent c.args.sink.now in
+    let new = g.K.Sink.sent c.order_from.new.sink in
     let fault = c.in-Err.fault in
     rw c.from.ensures (
     failed_to c.args.options input old before sc c.in_ok-lines.lines.items means says new after fault
-    (subst (λ (ls : List NumberedLine). WroteOrder (IsAnswerOf c.args.options sc ls) old new before after (Err fault)) c.deref.ensures.value
-    (subst (λ (s : Scenario). WroteOrder (IsAnswerOf c.args.options s c.deref.result.now) old new before after (Err fault))
+    (subst (λ (ls : List NumberedLine). WroteOrder (IsAnswerOf c.args.options sc ls) old new (Err fault)) c.deref.ensures.value
+    (subst (λ (s : Scenario). WroteOrder (IsAnswerOf c.args.options s c.deref.result.now) old new (Err fault))
     (ap (λ (h : History). h.scenario) c.in_ok-machine.ensures.run) c.in-Err.ensures))
     )

@@ -12,16 +12,14 @@ write_found-requires-clause-taken g c = all_few c.args.machine.now c.requires.ra
 
 pub returns-in-Found : goal.returns-in-Found
 returns-in-Found g c =
-    let written = g.K.Sink.written in
-    let failures = g.K.Sink.failures in
+    let sent = g.K.Sink.sent in
     let sc = c.args.machine.now.scenario in
     rw c.in-Found.is (
-    subst (λ cs. WroteSome (IsWorded c.args.wording (reordered sc (cs ++ c.in-Found.path.items))) (written c.args.sink.now) (written c.write_found.new.sink)
-    (failures c.args.sink.now) (failures c.write_found.new.sink) c.write_found.result) (ran_all c.args.machine.now c.requires.ran)
+    subst (λ cs. WroteSome (IsWorded c.args.wording (reordered sc (cs ++ c.in-Found.path.items))) (sent c.args.sink.now) (sent c.write_found.new.sink) c.write_found.result) (ran_all c.args.machine.now c.requires.ran)
     (rw c.deref.ensures.value at c.write_found.ensures))
 
 pub returns-in-Nowhere : goal.returns-in-Nowhere
-returns-in-Nowhere g c = rw c.in-Nowhere.is (record { text = []; is = refl; wrote = (Appends-nil (g.K.Sink.written c.args.sink.now), refl) })
+returns-in-Nowhere g c = rw c.in-Nowhere.is (record { text = []; is = refl; wrote = (Appends-nil (g.K.Sink.sent c.args.sink.now).written, refl) })
 
 pub returns-in-Spent : goal.returns-in-Spent
-returns-in-Spent g c = rw c.in-Spent.is (record { text = []; is = refl; wrote = (Appends-nil (g.K.Sink.written c.args.sink.now), refl) })
+returns-in-Spent g c = rw c.in-Spent.is (record { text = []; is = refl; wrote = (Appends-nil (g.K.Sink.sent c.args.sink.now).written, refl) })

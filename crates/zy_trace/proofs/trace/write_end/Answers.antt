@@ -7,6 +7,5 @@ use Rattle.zy_trace.proofs.trace.write_end.Goals as goal
 
 pub returns : goal.returns
 returns g c =
-    let Text : Bool → Type 0 = λ same. Wrote (g.K.Sink.written c.args.sink.now) (g.K.Sink.written c.write.new.sink) (g.K.Sink.failures c.args.sink.now)
-    (g.K.Sink.failures c.write.new.sink) c.write.result (flat_map line_of (last_lines c.args.machine.now.state same)) in
+    let Text : Bool → Type 0 = λ same. Wrote (g.K.Sink.sent c.args.sink.now) (g.K.Sink.sent c.write.new.sink) c.write.result (flat_map line_of (last_lines c.args.machine.now.state same)) in
     subst Text c.in_ok-agrees.ensures c.write.ensures

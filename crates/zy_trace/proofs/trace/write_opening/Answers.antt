@@ -10,8 +10,7 @@ use Rattle.zy_trace.proofs.trace.write_opening.Goals as goal
 
 pub returns : goal.returns
 returns g c =
-    let Text : List ℕ → Type 0 = λ text. Wrote (g.K.Sink.written c.args.sink.now) (g.K.Sink.written c.write.new.sink) (g.K.Sink.failures c.args.sink.now)
-    (g.K.Sink.failures c.write.new.sink) c.write.result text in
+    let Text : List ℕ → Type 0 = λ text. Wrote (g.K.Sink.sent c.args.sink.now) (g.K.Sink.sent c.write.new.sink) c.write.result text in
     let h = c.args.machine.now in
     subst Text
     (canon-before h.scenario (opening_lines h.state)

@@ -8,7 +8,6 @@ use Rattle.zy_trace.proofs.trace.write_rest.Goals as goal
 
 pub returns-clause-wrote : goal.returns-clause-wrote
 returns-clause-wrote g c =
-    let End : History → Type 0 = λ h. Wrote (g.K.Sink.written c.write_all_steps.new.sink) (g.K.Sink.written c.write_end.new.sink)
-    (g.K.Sink.failures c.write_all_steps.new.sink) (g.K.Sink.failures c.write_end.new.sink) c.write_end.result (end_text h) in
+    let End : History → Type 0 = λ h. Wrote (g.K.Sink.sent c.write_all_steps.new.sink) (g.K.Sink.sent c.write_end.new.sink) c.write_end.result (end_text h) in
     let steps = c.in_ok-write_all_steps.ensures in
-    Wrote-then _ _ _ _ _ _ _ _ _ steps.wrote (subst End steps.made c.write_end.ensures)
+    Wrote-then _ _ _ _ _ _ steps.wrote (subst End steps.made c.write_end.ensures)

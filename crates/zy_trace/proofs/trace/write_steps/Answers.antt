@@ -47,10 +47,9 @@ returns-in_err-write_step-clause-wrote g c =
     let lt : i < length sc.choices = omega (arith, ap length all, c.loop-test.true) in
     let p = err_from_is_err_and c.from_residual.result c.from_residual.ensures.1 in
     let fault = c.in_err-write_step.field-0.0 in
-    let Text : List ℕ → Type 0 = λ text. Wrote (g.K.Sink.written c.loop.sink) (g.K.Sink.written c.write_step.new.sink) (g.K.Sink.failures c.loop.sink)
-    (g.K.Sink.failures c.write_step.new.sink) {X = Unit {0}} (Err fault) text in
+    let Text : List ℕ → Type 0 = λ text. Wrote (g.K.Sink.sent c.loop.sink) (g.K.Sink.sent c.write_step.new.sink) {X = Unit {0}} (Err fault) text in
     rw steps-blocks
-    (Wrote-element-stops _ _ _ _ _ _ (flat_map line_of) (blocks form sc 1 (opening sc) sc.choices) i [] fault _ (block-left form sc i lt) c.loop.invariant.so_far
+    (Wrote-element-stops _ _ _ (flat_map line_of) (blocks form sc 1 (opening sc) sc.choices) i [] fault _ (block-left form sc i lt) c.loop.invariant.so_far
     c.loop.invariant.none_failed (subst Text (next-block form sc i lt c.loop.now c.loop.invariant.made) c.in_err-write_step.ensures.wrote)
     (p.1 ∙ ap Err p.2))
 
