@@ -1,6 +1,5 @@
 -- What the lines so far have said, and one line more.
-use Rattle.std.proofs.Common.{◌≡◌, ℕ, List, [], ◌∷◌, ◌++◌, Option, refl, sym, ap, subst, ◌∙◌, append_assoc, append-nil}
-use Rattle.std.specs.Io.KnownBytes.{Appends}
+use Rattle.std.proofs.Common.{◌≡◌, ℕ, List, [], ◌∷◌, ◌++◌, refl, sym, ap, subst, ◌∙◌, append_assoc, append-nil}
 use Rattle.std.proofs.KnownBytes.{Appends-trans, Appends-nil}
 use Rattle.zy_io.specs.Streams.{Sent, Sends, SendsPrefix}
 use Rattle.zy_text.specs.Words.{words_of}
@@ -34,19 +33,19 @@ one_line : (t u : Session) (l more : List ℕ) → LineSays t (words_of l) u mor
 one_line t u l more h = (u, more, [], h, (refl, refl), sym (append-nil more))
 
 -- the first of the lines led from s to t, and what they say went out; the last ones are left
-pub record Said (old new : Option (List ℕ)) (s : Session) (lines last : List (List ℕ)) (t : Session) : Type 0 where
+pub record Said (old new : Sent) (s : Session) (lines last : List (List ℕ)) (t : Session) : Type 0 where
   pub read : List (List ℕ)
   pub parted : lines ≡ read ++ last
   pub out : List ℕ
   pub says : Says s read t out
-  pub wrote : Appends old new out
+  pub wrote : Sends old new out
 
 -- before the first line
-pub said_nothing : (a : Option (List ℕ)) (s : Session) (lines : List (List ℕ)) → Said a a s lines lines s
-said_nothing a s lines = record { read = []; parted = refl; out = []; says = (refl, refl); wrote = Appends-nil a }
+pub said_nothing : (a : Sent) (s : Session) (lines : List (List ℕ)) → Said a a s lines lines s
+said_nothing a s lines = record { read = []; parted = refl; out = []; says = (refl, refl); wrote = Appends-nil a.written }
 
 -- no more goes out: it is a prefix, since the others say something
-pub said_stops : (a b : Option (List ℕ)) (s t : Session) (lines last : List (List ℕ)) → Said a b s lines last t → SaysPrefix a b s lines
+pub said_stops : (a b : Sent) (s t : Session) (lines last : List (List ℕ)) → Said a b s lines last t → SaysPrefix a b s lines
 said_stops a b s t lines last h =
     let k = says_some t last in record {
       session = k.0;

@@ -1,5 +1,5 @@
 -- What the lines that were read say went out, and the others are left.
-use Rattle.std.proofs.Common.{◌≡◌, length}
+use Rattle.std.proofs.Common.{length}
 use Rattle.zy_io.specs.Streams.{NoneFailed}
 use Rattle.zy_text.specs.Words.{lines_of}
 use Rattle.zy_debug_text.proofs.SaidLemmas.{Said}

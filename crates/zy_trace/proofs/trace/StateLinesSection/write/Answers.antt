@@ -1,7 +1,6 @@
 -- What is in the buffer are the lines of the state.
 use Rattle.std.proofs.Common.{◌≡◌, ◌++◌, ◌∙◌, ap, map, refl, subst}
 use Rattle.std.specs.List.{flat_map}
-use Rattle.std.specs.Io.KnownBytes.{Appends}
 use Rattle.std.proofs.lemmas.Result.{err_from_is_err_and}
 use Rattle.zy_io.specs.Streams.{Sends, SendsPrefix}
 use Rattle.zy_io.proofs.StreamLemmas.{SendsPrefix-none}
