@@ -266,8 +266,8 @@ struct Comparison {
 
 impl Calls for Comparison {
     fn call(&mut self, _place: usize) -> Result<u64, Refused> {
-        let verdict = tested(compare(self.alloc, self.listing.bytes(), &self.machine))?;
-        Ok(digest_of(&verdict))
+        let found = tested(compare(self.alloc, self.listing.bytes(), &self.machine))?;
+        Ok(digest_of(&found.verdict))
     }
 }
 

@@ -52,12 +52,11 @@ fn repeat(alloc: Global, listing: &[u8]) -> Result<(), Refused> {
 /// Whether a listing passes `check`, where its scenario is that of a text.
 fn check(alloc: Global, text: &[u8], listing: &[u8]) -> Result<(), Refused> {
     let machine = machine(alloc, text)?;
-    let verdict = prepared(compare(alloc, listing, &machine));
+    let found = prepared(compare(alloc, listing, &machine));
     machine.discard();
-    match verdict {
-        Ok(Verdict::Table) => Ok(()),
-        Ok(Verdict::NotTable(_)) => Err(Refused::Different),
-        Err(refused) => Err(refused),
+    match found?.verdict {
+        Verdict::Table => Ok(()),
+        Verdict::NotTable(_) => Err(Refused::Different),
     }
 }
 

@@ -11,7 +11,6 @@ use zy_engine::{BenchFault, CheckedListing};
 use zy_io::CountingReader;
 use zy_report::excerpt::Differing;
 use zy_report::explained::explain;
-use zy_report::listing::line_due;
 use zy_report::origin::Origin;
 use zy_text::cut::cut_len;
 
@@ -54,28 +53,14 @@ fn tell_checked<R: Eprint + AllocGlobal, W: Write>(
             Ok(DONE)
         }
         Verdict::NotTable(line) => {
-            let due = line_due(rt.alloc(), &checked.machine, line)?;
-            let status = close_differing(rt, file, listing, line, due.line(), output);
-            drop(due);
-            status
+            let Some(due) = &checked.due else {
+                return Err(BenchFault::Memory);
+            };
+            pass(output)?;
+            show(rt, file, listing, line, due.as_slice());
+            Ok(NOT_TABLE)
         }
     }
-}
-
-/// Ends a check of an input that is not the listing, shows the line at which it is not, and gives the exit status.
-fn close_differing<R: Eprint, W: Write>(
-    rt: &R,
-    file: Option<&str>,
-    input: &[u8],
-    line: usize,
-    due: &[u8],
-    output: &mut Output<W>,
-) -> Result<u8, BenchFault>
-    requires { output.old.sink.1 < u64.MAX }
-{
-    pass(output)?;
-    show(rt, file, input, line, due);
-    Ok(NOT_TABLE)
 }
 
 /// Shows on standard error the line of an input at which it is not the listing.

@@ -1,10 +1,9 @@
 -- What a listing left in a comparing sink.
 use Rattle.std.proofs.Common.{◌≡◌, ◌<◌, ◌+◌, ℕ, List, [], ◌∷◌, ◌++◌, length, drop, get_or, refl, sym, ap, ◌∙◌, arith, Some, append-nil}
-use Rattle.std.specs.Io.KnownBytes.{Appends}
-use Rattle.zy_io.specs.Streams.{WrotePrefix}
+use Rattle.zy_io.specs.Streams.{OneFailed, Sends, SendsPrefix}
 use Rattle.zy_check.specs.declared.verdict.Verdict.{Verdict}
 use Rattle.zy_check.specs.Differs.{verdict}
-use Rattle.zy_check.specs.Comparing.{Compared, written_by}
+use Rattle.zy_check.specs.Comparing.{Compared, sent_by, written_by}
 
 -- two lists with one more
 longer : (x y : ℕ) (xs ys : List ℕ) → x ≡ y → xs ≡ ys → x ∷ xs ≡ y ∷ ys
@@ -38,10 +37,10 @@ module _ (input listing : List ℕ) (old new : Compared) (v : Verdict) (begun : 
       rw (whole, ← p.0, ← p.1) h
 
   -- all of it was taken
-  pub judged_whole : Appends (Some (written_by old)) (Some (written_by new)) listing → v ≡ verdict new.input new.text → v ≡ verdict input listing
+  pub judged_whole : Sends (sent_by old) (sent_by new) listing → v ≡ verdict new.input new.text → v ≡ verdict input listing
   judged_whole wrote h = by_parts listing [] (sym (append-nil listing)) wrote (h ∙ ap (verdict new.input) (sym (append-nil new.text)))
 
   -- a prefix of it was, and then something was refused
-  pub judged_prefix : WrotePrefix (Some (written_by old)) (Some (written_by new)) listing → new.refusals ≡ old.refusals + 1
+  pub judged_prefix : SendsPrefix (sent_by old) (sent_by new) listing → OneFailed (sent_by old) (sent_by new)
       → (0 < new.refusals → (back : List ℕ) → v ≡ verdict new.input (new.text ++ back)) → v ≡ verdict input listing
   judged_prefix wrote once h = by_parts wrote.0 wrote.1 wrote.2 wrote.3 (h (omega (arith, once)) wrote.1)

@@ -4,7 +4,8 @@ ghost use Rattle.zy_check.specs.Differs.{common, feeds};
 ghost use Rattle.zy_check.specs.Differs as spec;
 ghost use Rattle.zy_check.specs.Comparing.{written_by};
 
-use crate::verdict::Verdict;
+use crate::verdict::{Comparison, Verdict};
+use std::alloc::Global;
 use std::io;
 use std::marker::Model;
 use zy_io::Sink;
@@ -40,8 +41,8 @@ fn line_after(text: &[u8], count: usize) -> usize
     front.iter().filter(|byte| **byte == b'\n').count() + 1
 }
 
-/// Compares what it is given with an input, and keeps none of it but the first byte that differs. It takes
-/// all bytes through that one, and none behind it, so a writer stops there.
+/// Compares what it is given with an input, and keeps none of it but the bytes of the call in which one differs: a line, where each
+/// line comes by one call. It takes all bytes through the first that differs, and none behind it, so a writer stops there.
 #[derive(Drop)]
 pub struct Comparing<'a> {
     input: &'a [u8],
@@ -49,8 +50,11 @@ pub struct Comparing<'a> {
     at: usize,
     // This byte came behind them, and the input has none there or another.
     other: Option<u8>,
+    // The bytes of the call in which it came; none before, and `None` where memory for them was refused.
+    due: Option<Vec<u8>>,
     // How many calls took nothing.
     refusals: u64,
+    alloc: Global,
 }
 
 impl<'a> Model for Comparing<'a> {
@@ -71,14 +75,16 @@ impl<'a> Model for Comparing<'a> {
 
 impl<'a> Comparing<'a> {
     /// Nothing is taken yet.
-    pub fn new(input: &'a [u8]) -> Comparing<'a>
+    pub fn new(alloc: Global, input: &'a [u8]) -> Comparing<'a>
         ensures { result ≡ record { input = input.now; text = []; refusals = 0 } }
     {
         Comparing {
             input,
             at: 0,
             other: None,
+            due: Some(Vec::new(alloc)),
             refusals: 0,
+            alloc,
         }
     }
 
@@ -97,12 +103,22 @@ impl<'a> Comparing<'a> {
             Verdict::NotTable(line_after(self.input, self.at))
         }
     }
+
+    /// That verdict, and the line that was kept.
+    pub fn finish(self) -> Comparison
+        ensures whole { result.verdict ≡ spec.verdict self.entry.input self.entry.text }
+        ensures prefix { 0 < self.entry.refusals → (back : List ℕ)
+            → result.verdict ≡ spec.verdict self.entry.input (self.entry.text ++ back) }
+    {
+        Comparison {
+            verdict: self.verdict(),
+            due: self.due,
+        }
+    }
 }
 
 impl Sink for Comparing<'_> {
-    ghost written = { λ s. Some (written_by s) };
-
-    ghost failures = { λ s. s.refusals };
+    ghost sent = { sent_by };
 
     fn put(&mut self, bytes: &[u8]) -> io::Result<usize> {
         if self.other.is_some() {
@@ -117,6 +133,7 @@ impl Sink for Comparing<'_> {
         self.at += same;
         if let Some(byte) = back.first() {
             self.other = Some(*byte);
+            self.due = bytes.to_vec(self.alloc).ok();
             return Ok(same + 1);
         }
         Ok(same)

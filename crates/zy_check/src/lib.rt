@@ -6,4 +6,4 @@ pub mod comparing;
 pub mod laws;
 pub mod verdict;
 
-pub use crate::verdict::Verdict;
+pub use crate::verdict::{Comparison, Verdict};

@@ -24,3 +24,12 @@ impl Line for Verdict {
         }
     }
 }
+
+/// What the comparison of an input with the listing of its scenario finds.
+#[derive(Drop)]
+pub struct Comparison {
+    pub verdict: Verdict,
+    /// The line of the listing in which they first differ, with its end, and empty where it has none there; `None` where memory for
+    /// it was refused.
+    pub due: Option<Vec<u8>>,
+}

@@ -9,8 +9,8 @@ ghost use Rattle.zy_engine.specs.Faults.{of_reading};
 use crate::faults::BenchFault;
 use crate::format::{Format, accept, split_scenario};
 use std::alloc::{AllocError, Global};
-use zy_check::Verdict;
 use zy_check::check::compare;
+use zy_check::{Comparison, Verdict};
 use zy_io::reading::read_all;
 use zy_io::{Line, LineBuffer, Sink, Source, TextFault};
 use zy_isa::Scenario;
@@ -40,24 +40,27 @@ fn tell<K: Sink>(alloc: Global, verdict: Verdict, sink: &mut K) -> Result<(), Te
 #[derive(Drop)]
 pub struct CheckedListing {
     pub verdict: Verdict,
+    /// The line that the listing has where the input first differs, as a `Comparison` has it.
+    pub due: Option<Vec<u8>>,
     /// It has made all choices of the scenario.
     pub machine: Machine,
 }
 
-/// Compares an input with the listing of a machine, writes the verdict, and gives it. Nothing is written before that is known.
+/// Compares an input with the listing of a machine, writes the verdict, and gives what was found. Nothing is written before that is
+/// known.
 fn write_verdict<K: Sink>(
     alloc: Global,
     input: &[u8],
     machine: &Machine,
     sink: &mut K,
-) -> Result<Verdict, TextFault>
+) -> Result<Comparison, TextFault>
     requires { (K.sent sink.old).failures < u64.MAX }
-    ensures returned { IfOk result (λ v. v ≡ verdict input.now (listing_of machine.now)) }
+    ensures returned { IfOk result (λ c. c.verdict ≡ verdict input.now (listing_of machine.now)) }
     ensures wrote { WroteOrNothing (K.sent sink.old) (K.sent sink.new) result (verdict_line (verdict input.now (listing_of machine.now))) }
 {
-    let verdict = compare(alloc, input, machine)?;
-    tell(alloc, verdict, sink)?;
-    Ok(verdict)
+    let found = compare(alloc, input, machine)?;
+    tell(alloc, found.verdict, sink)?;
+    Ok(found)
 }
 
 /// Makes the choices of a scenario, compares an input with the listing, and writes the verdict.
@@ -72,7 +75,11 @@ fn check_run<K: Sink>(
 {
     let machine = Machine::run_all(alloc, scenario)?;
     match write_verdict(alloc, input, &machine, sink) {
-        Ok(verdict) => Ok(CheckedListing { verdict, machine }),
+        Ok(found) => Ok(CheckedListing {
+            verdict: found.verdict,
+            due: found.due,
+            machine,
+        }),
         Err(fault) => {
             machine.discard();
             Err(fault)

@@ -9,7 +9,6 @@ pub mod explained;
 pub mod failure;
 pub mod fault_message;
 pub mod furthest;
-pub mod listing;
 pub mod no_effect;
 pub mod origin;
 pub mod progress;

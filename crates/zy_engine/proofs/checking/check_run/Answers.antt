@@ -1,6 +1,7 @@
 -- The machine has made all choices of the scenario, so its listing is that of the scenario.
 use Rattle.std.proofs.Common.{◌∙◌, Ok, Err, ap, refl, subst}
 use Rattle.std.proofs.lemmas.Result.{err_from_is_err_and}
+use Rattle.zy_check.specs.declared.verdict.Comparison.{Comparison}
 use Rattle.zy_check.specs.declared.verdict.Verdict.{Verdict}
 use Rattle.zy_check.specs.Differs.{verdict}
 use Rattle.zy_listing.specs.Run.{listing_run}
@@ -24,7 +25,7 @@ returns-in-Ok g c =
     record {
       returned = c.in-Ok.ensures.returned ∙ same;
       machine = ran;
-      wrote = subst (λ (v : Verdict). WroteOrNothing old new {X = Verdict} (Ok c.in-Ok.verdict) (verdict_line v)) same c.in-Ok.ensures.wrote;
+      wrote = subst (λ (v : Verdict). WroteOrNothing old new {X = Comparison} (Ok c.in-Ok.found) (verdict_line v)) same c.in-Ok.ensures.wrote;
     }
 
 pub returns-in-Err : goal.returns-in-Err
@@ -36,6 +37,6 @@ returns-in-Err g c =
     record {
       returned = tt;
       machine = tt;
-      wrote = fault_says Verdict CheckedListing old new c.in-Err.fault (verdict_line (verdict c.args.input.now (listing_run c.args.scenario)))
-          (subst (λ (v : Verdict). WroteOrNothing old new {X = Verdict} (Err c.in-Err.fault) (verdict_line v)) same c.in-Err.ensures.wrote);
+      wrote = fault_says Comparison CheckedListing old new c.in-Err.fault (verdict_line (verdict c.args.input.now (listing_run c.args.scenario)))
+          (subst (λ (v : Verdict). WroteOrNothing old new {X = Comparison} (Err c.in-Err.fault) (verdict_line v)) same c.in-Err.ensures.wrote);
     }
