@@ -15,7 +15,7 @@ use zy_text::Words;
 use zy_text::line::take_line;
 use zy_text::names::{is, is_name};
 
-/// A word, where it is a name; else nothing.
+/// The word if it is a name, otherwise no bytes.
 fn if_name(word: &[u8]) -> &[u8]
     ensures { result.now ≡ spec.if_name word.entry.now }
 {
@@ -45,7 +45,7 @@ fn add_name<'a>(names: &mut Vec<&'a [u8]>, words: &[&'a [u8]]) -> Result<(), All
     }
 }
 
-/// The name of each transaction of a text that means a scenario, at its number; empty where it has its number alone.
+/// The names that a scenario text gives its transactions, indexed by transaction number. The name of a transaction without one is empty.
 pub fn names_of(alloc: Global, text: &[u8]) -> Result<Vec<&[u8]>, AllocError>
     ensures { IfOk result (λ v. texts v.items ≡ spec.names_of text.entry.now) }
 {

@@ -1,8 +1,8 @@
 //! A sink that compares.
-ghost use Rattle.std.specs.Prelude.{◌≡◌, ◌<◌, ◌≤◌, ◌+◌, ◌++◌, [], ℕ, List, Some, length, take};
+ghost use Rattle.std.specs.Prelude.{◌≡◌, ◌<◌, ◌≤◌, ◌+◌, ◌++◌, [], ℕ, List, length, take};
 ghost use Rattle.zy_check.specs.Differs.{common, feeds};
 ghost use Rattle.zy_check.specs.Differs as spec;
-ghost use Rattle.zy_check.specs.Comparing.{written_by};
+ghost use Rattle.zy_check.specs.Comparing.{sent_by};
 
 use crate::verdict::{Comparison, Verdict};
 use std::alloc::Global;
@@ -118,7 +118,7 @@ impl<'a> Comparing<'a> {
 }
 
 impl Sink for Comparing<'_> {
-    ghost sent = { sent_by };
+    ghost sent = { λ s. sent_by s };
 
     fn put(&mut self, bytes: &[u8]) -> io::Result<usize> {
         if self.other.is_some() {

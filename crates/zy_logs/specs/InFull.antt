@@ -1,4 +1,4 @@
--- The line of a log that leaves nothing of a step out, and the outcomes that one can tell so.
+-- The line of a log that tells all of a step, and the outcomes that such a line can tell.
 use Rattle.std.specs.Prelude.{ℕ, ◌≤◌, ◌<◌, ◌++◌, List, [], ◌∷◌, codes, Option, Some, None}
 use Rattle.std.specs.Fmt.{decimal}
 use Rattle.zy_model.specs.declared.kind.Kind.{Kind}
@@ -17,7 +17,7 @@ use Rattle.zy_logs.specs.Words.{Word}
 abbrev pub in_full : Entry → LogLine
 in_full e = record { choice = e.choice; told = Some (exactly e.outcome); sent = e.sent }
 
--- a number that a page or a key may have in a line
+-- a line may give this number for a page or a key
 abbrev pub IsPage : ℕ → Type 0
 IsPage p = p ≤ 65535
 
@@ -27,7 +27,7 @@ HasPage (why.Frozen p) = IsPage p
 HasPage (why.Gone p) = IsPage p
 HasPage w = Unit {0}
 
--- the numbers of an outcome are ones that a line may have, of `count` transactions
+-- a line may have the numbers of this outcome, where there are `count` transactions
 abbrev pub IsTold : ℕ → Outcome → Type 0
 IsTold count (outcome.Split p q k) = IsPage p × IsPage q × IsPage k
 IsTold count (outcome.Aborted w) = HasPage w
@@ -43,7 +43,7 @@ IsTold count (outcome.Active t) = t < count
 IsTold count (outcome.Pushed p) = IsPage p
 IsTold count o = Unit {0}
 
--- ---- the words of such a line, in which a transaction has its number
+-- ---- the words of such a line, which names a transaction by its number
 
 -- WHY
 abbrev pub reason_words : Why → List Word

@@ -27,15 +27,15 @@ pub fn logs_fit()
         → logs_of txns gap most first text ≡ Ok lines → steps_in gap lines ≤ most }
 {}
 
-/// Whatever a line says of the outcome of a step, its choice can give. So no line is rejected for an outcome that a step of its
-/// choice has in some scenario and state.
+/// A choice can give each pattern that matches the outcome of one of its steps, in any scenario and state. So the reader rejects no
+/// line for an outcome that such a step has.
 pub fn steps_are_possible()
     ensures { (sc : AScenario) → (c : AChoice) → (s : State) → (told : APattern) → matches told (step sc c s).outcome ≡ true
         → can_give c told ≡ true }
 {}
 
-/// The words that tell all of an outcome are read, before whatever words follow, as the pattern that leaves nothing of it out. All of
-/// a step is read so: its choice, its outcome, and the message that was sent, if one was.
+/// The reader takes the words that tell all of an outcome as the pattern that matches only this outcome, whatever words follow. It
+/// reads the words of a whole step likewise: its choice, its outcome, and the sent message, if any.
 pub fn told_in_full()
     ensures outcome { (txns : SomeTxns) → txns.count ≤ max_txns → (told : AnOutcome) → IsTold txns.count told → (rest : List AWord)
         → outcome_of txns (outcome_words told ++ rest) ≡ Ok (exactly told, rest) }
