@@ -1,7 +1,6 @@
 -- The scenario part of a listing gives that listing.
-use Rattle.std.proofs.Common.{◌≡◌, ◌∙◌, ℕ, List, Option, Result, Ok, Err, inl, inr, subst, sym}
-use Rattle.std.specs.Io.KnownBytes.{Appends}
-use Rattle.zy_io.specs.Streams.{Sent}
+use Rattle.std.proofs.Common.{◌≡◌, ◌∙◌, ℕ, List, Result, Ok, Err, inl, inr, subst, sym}
+use Rattle.zy_io.specs.Streams.{Sent, Sends}
 use Rattle.zy_io.specs.Inputs.{reported_of}
 use Rattle.zy_io.specs.declared.writing.TextFault.{TextFault}
 use Rattle.zy_isa.specs.declared.choice.Choice.{Choice}
@@ -29,12 +28,12 @@ means_one text s t h k = sym (only_of text _ s (only text s h) h) ∙ only_of te
 module _ (sc : Scenario) (h : IsScenario sc) (old new : Sent) (machine : History) where
   -- what it wrote is a listing of a scenario that the text means
   wrote : (came : Result History TextFault) (s : Scenario) → Ok machine ≡ reported_of of_writing came → Means (canon sc) s
-      → WroteRun listing_run s old new came → Appends old new (listing_run sc)
+      → WroteRun listing_run s old new came → Sends old new (listing_run sc)
   wrote (Ok m) s e means due =
-      subst (λ (t : Scenario). Appends old new (listing_run t)) (means_one (canon sc) s sc means (Means-canon sc h)) due.wrote.0
+      subst (λ (t : Scenario). Sends old new (listing_run t)) (means_one (canon sc) s sc means (Means-canon sc h)) due.wrote.0
   wrote (Err f) s e means due = absurd (cc)
 
-  written_again : OnInput (WroteRun listing_run) Text (canon sc) old new (Ok machine) → Appends old new (listing_run sc)
+  written_again : OnInput (WroteRun listing_run) Text (canon sc) old new (Ok machine) → Sends old new (listing_run sc)
   written_again on = elim on [
     | inl done ↦ wrote done.came done.meant done.reported done.accepted.stands done.due
     | inr refused ↦ let e = refused.reported in absurd (cc)

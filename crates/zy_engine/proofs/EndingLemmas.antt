@@ -1,5 +1,5 @@
 -- What went out of a scenario whose migration was to be ended.
-use Rattle.std.proofs.Common.{◌≡◌, ◌∙◌, ◌<◌, ◌≤◌, ◌+◌, ◌++◌, ℕ, List, [], Option, None, Result, Ok, Err, ap, arith, inr, length, refl, subst, take}
+use Rattle.std.proofs.Common.{◌≡◌, ◌∙◌, ◌<◌, ◌≤◌, ◌+◌, ◌++◌, List, [], None, Result, Ok, Err, ap, arith, inr, length, refl, subst, take}
 use Rattle.std.proofs.KnownBytes.{Appends-nil}
 use Rattle.zy_io.specs.Streams.{Sent}
 use Rattle.zy_io.proofs.StreamLemmas.{SendsPrefix-none}
@@ -68,7 +68,7 @@ ended_badly w h cs old new f ran way x =
 -- there is no room
 pub ended_full : (w : Wording) (h : History) (old : Sent) → h ≡ history_of None h.scenario
     → max_choices < length h.entries + length (way_out h.scenario h.state) → WroteEnding w h.scenario old old (Ok NoRoom)
-ended_full w h old before ran full =
+ended_full w h old ran full =
     let few = all_few h ran in
     let more : max_choices < length h.scenario.choices + length (way_of h.scenario) =
     omega (arith, full, few, ap (λ (k : History). length (way_out h.scenario k.state)) ran) in
@@ -76,6 +76,6 @@ ended_full w h old before ran full =
 
 -- where memory runs out before anything is written
 pub ended_nowhere : (w : Wording) (sc : Scenario) (old : Sent) → WroteEnding w sc old old (Err Memory)
-ended_nowhere w sc old before =
+ended_nowhere w sc old =
     let all = reordered sc (sc.choices ++ way_of sc) in
     record { ending = Written; returned = tt; wrote = record { text = canon all; is = worded w all; wrote = (SendsPrefix-none old (canon all), refl) } }

@@ -84,13 +84,13 @@ nothing_known from sc q = λ cs a lt. absurd (omega (arith, lt))
 -- where memory runs out before anything is written, nothing is known
 pub nothing_searched : (o : SearchOptions) (sc : Scenario) (q : Sought) (sent : Sent)
     → WroteAnswer o q sc sent sent (Err Memory)
-nothing_searched o sc q written failures =
+nothing_searched o sc q sent =
     record {
       answer = Spent 0;
       is = nothing_known o.from sc q;
       returned = tt;
       due = tt;
-      wrote = record { text = []; is = refl; wrote = (SendsPrefix-none written [], refl) };
+      wrote = record { text = []; is = refl; wrote = (SendsPrefix-none sent [], refl) };
     }
 
 -- what was written of a machine's first choices is written of those that are steps already taken

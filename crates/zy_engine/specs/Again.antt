@@ -1,5 +1,5 @@
 -- A listing whose scenario part gives that listing.
-use Rattle.std.specs.Prelude.{◌≡◌, ℕ, List, Option, Ok}
+use Rattle.std.specs.Prelude.{◌≡◌, Ok}
 use Rattle.zy_io.specs.Streams.{Sent, Sends}
 use Rattle.zy_text.specs.Canon.{canon}
 use Rattle.zy_isa.specs.Scenario.{Scenario}

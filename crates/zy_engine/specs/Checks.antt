@@ -1,5 +1,5 @@
 -- What the engine of a check does: its input is to be the listing of the scenario at its head.
-use Rattle.std.specs.Prelude.{◌≡◌, ◌+◌, ℕ, List, Option, Result, Ok, Err, IfOk}
+use Rattle.std.specs.Prelude.{◌≡◌, ℕ, List, Result, Ok, Err, IfOk}
 use Rattle.zy_io.specs.Streams.{Sent, Sends, SendsPrefix, NoneFailed, OneFailed}
 use Rattle.zy_io.specs.Writing.{line_of}
 use Rattle.zy_io.specs.declared.writing.TextFault.{TextFault}

@@ -1,5 +1,5 @@
 -- What the engine of a debugger does: its input is a scenario text, and commands below it.
-use Rattle.std.specs.Prelude.{ℕ, List, Option, Result, drop, length}
+use Rattle.std.specs.Prelude.{ℕ, List, Result, drop, length}
 use Rattle.zy_io.specs.Streams.{Sent}
 use Rattle.zy_io.specs.declared.writing.TextFault.{TextFault}
 use Rattle.zy_isa.specs.Scenario.{Scenario}

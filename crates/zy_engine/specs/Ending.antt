@@ -1,5 +1,5 @@
 -- What the engine writes that ends the migration of a scenario.
-use Rattle.std.specs.Prelude.{◌≡◌, ◌<◌, ◌+◌, ◌++◌, ℕ, List, [], Option, Result, IfOk, length}
+use Rattle.std.specs.Prelude.{◌≡◌, ◌<◌, ◌+◌, ◌++◌, ℕ, List, [], Result, IfOk, length}
 use Rattle.zy_io.specs.Streams.{Sent}
 use Rattle.zy_io.specs.declared.writing.TextFault.{TextFault}
 use Rattle.zy_isa.specs.Limits.{max_choices}

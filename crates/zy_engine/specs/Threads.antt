@@ -1,5 +1,5 @@
 -- What the engine of a run by three threads writes.
-use Rattle.std.specs.Prelude.{◌≡◌, ℕ, List, Option, Result, IfOk}
+use Rattle.std.specs.Prelude.{◌≡◌, List, Result, IfOk}
 use Rattle.zy_io.specs.Streams.{Sent}
 use Rattle.zy_io.specs.Writing.{Wrote}
 use Rattle.zy_io.specs.declared.writing.TextFault.{TextFault}

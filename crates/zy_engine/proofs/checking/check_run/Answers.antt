@@ -14,7 +14,7 @@ use Rattle.zy_engine.proofs.checking.check_run.Goals as goal
 pub returns-in_err-machine : goal.returns-in_err-machine
 returns-in_err-machine g c =
     let p = err_from_is_err_and c.from_residual.result c.from_residual.ensures.1 in
-    rw (p.1, p.2) (record { returned = tt; machine = tt; wrote = (refl, refl) })
+    rw (p.1, p.2) (record { returned = tt; machine = tt; wrote = refl })
 
 pub returns-in-Ok : goal.returns-in-Ok
 returns-in-Ok g c =

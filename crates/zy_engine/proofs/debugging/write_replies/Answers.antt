@@ -1,6 +1,7 @@
 -- The session begins at the start.
-use Rattle.std.proofs.Common.{List, Option, ℕ, refl, subst}
+use Rattle.std.proofs.Common.{List, ℕ, refl, subst}
 use Rattle.std.proofs.lemmas.Result.{err_from_is_err_and}
+use Rattle.zy_io.specs.Streams.{Sent}
 use Rattle.zy_text.specs.Words.{lines_of}
 use Rattle.zy_debug.specs.Sessions.{Session}
 use Rattle.zy_debug_text.specs.Console.{SaysPrefix, WroteSession, opened}
@@ -8,7 +9,7 @@ use Rattle.zy_debug_text.proofs.SaidLemmas.{said_nothing, said_stops}
 use Rattle.zy_engine.proofs.debugging.write_replies.Goals as goal
 
 -- where nothing went out, nothing but a prefix did
-nothing_said : (a : Option (List ℕ)) (s : Session) (lines : List (List ℕ)) → SaysPrefix a a s lines
+nothing_said : (a : Sent) (s : Session) (lines : List (List ℕ)) → SaysPrefix a a s lines
 nothing_said a s lines = said_stops a a s s lines lines (said_nothing a s lines)
 
 pub returns-in_err-debugger : goal.returns-in_err-debugger

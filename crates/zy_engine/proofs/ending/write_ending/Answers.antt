@@ -3,7 +3,6 @@ use Rattle.std.proofs.lemmas.Result.{err_from_is_err_and}
 use Rattle.zy_isa.specs.Scenario.{Scenario}
 use Rattle.zy_machine.specs.Histories.{History}
 use Rattle.zy_engine.specs.Ending.{WroteEnding}
-use Rattle.zy_engine.specs.Searching.{history_of}
 use Rattle.zy_engine.proofs.EndingLemmas.{ended_nowhere}
 use Rattle.zy_engine.proofs.ending.write_ending.Goals as goal
 
