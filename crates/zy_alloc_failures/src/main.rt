@@ -1,21 +1,15 @@
 //! Calls of the libraries, in which a request for memory is refused (tests/library-refusals): `zy_alloc_failures NAME < INPUT`
-//! makes the calls of a sweep and prints what was found. A further word asks for a digest of all answers.
+//! makes the calls of a sweep and prints what was found.
 #![tactic(auto)]
 
-mod calls;
-mod copies;
-mod digest;
-mod digested;
-mod engines;
-mod gates;
-mod growths;
-mod machines;
-mod scenarios;
-mod sessions;
-mod texts;
-mod threads;
+mod parts;
+mod scenes;
+mod sweeping;
+mod workers;
 
-use calls::{Answers, Findings, Refused, prepared};
+use crate::scenes::{Apart, Lines, Session, Setting, Verifying};
+use crate::sweeping::{Answers, Trouble, setup, sweep};
+use crate::workers::sweep_workers;
 use std::alloc::Global;
 use std::env::Env;
 use std::process::ExitCode;
@@ -23,137 +17,75 @@ use std::sync::Wait;
 use std::thread::Threads;
 use zy_io::CountingReader;
 use zy_io::reading::read_all;
+use zy_links::Link;
+use zy_locks::Locks;
+use zy_threads::Board;
+use zy_txns::Txn;
+use zy_wire::Wire;
 
-/// The sweep of a name over an input.
+/// How many turns of a loop a step of B waits where it is held up.
+const TURNS: u64 = 100;
+
+/// The sweep of a name. Those of parts need no input, and the others one with a scenario's text; that of `command` has
+/// commands below it.
 fn swept<R: Threads + Wait + Sync>(
     rt: &R,
     name: &str,
     alloc: Global,
     input: &[u8],
-) -> Result<Findings, Refused> {
-    if let Some(found) = scenarios::sweep_named(name, alloc, input) {
-        return found;
+) -> Result<Answers, Trouble> {
+    match name {
+        "verify" => sweep::<Verifying>(alloc, input),
+        "step_next" => sweep::<Board>(alloc, input),
+        "step_apart" => sweep::<Apart>(alloc, input),
+        "set_to" => sweep::<Setting>(alloc, input),
+        "command" => sweep::<Session>(alloc, input),
+        "lines" => sweep::<Lines>(alloc, input),
+        "wire_grow" => sweep::<Wire>(alloc, input),
+        "try_lock" => sweep::<Locks>(alloc, input),
+        "link_reserve" => sweep::<Link>(alloc, input),
+        "txn_put" => sweep::<Txn>(alloc, input),
+        "run_threads" => sweep_workers(rt, alloc, input, 0),
+        "run_threads_slowly" => sweep_workers(rt, alloc, input, TURNS),
+        _ => Err(Trouble::Fault),
     }
-    if let Some(found) = machines::sweep_named(name, alloc, input) {
-        return found;
-    }
-    if let Some(found) = texts::sweep_named(name, alloc, input) {
-        return found;
-    }
-    if let Some(found) = sessions::sweep_named(name, alloc, input) {
-        return found;
-    }
-    if let Some(found) = copies::sweep_named(name, alloc, input) {
-        return found;
-    }
-    if let Some(found) = growths::sweep_named(name, alloc) {
-        return found;
-    }
-    if let Some(found) = engines::sweep_named(name, alloc, input) {
-        return found;
-    }
-    if let Some(found) = threads::sweep_named(rt, name, alloc, input) {
-        return found;
-    }
-    Err(Refused::Fault)
-}
-
-/// Reads the input, and makes the sweep of a name over it.
-fn sweep<R: Input + AllocGlobal + Threads + Wait + Sync>(
-    rt: &R,
-    name: &str,
-) -> Result<Findings, Refused> {
-    let mut source = CountingReader::new(rt.reader());
-    let input = prepared(read_all(rt.alloc(), &mut source))?;
-    let found = swept(rt, name, rt.alloc(), input.as_slice());
-    drop(input);
-    found
-}
-
-/// What is found, and whether the digest is printed too.
-#[derive(Clone, Copy)]
-struct Report {
-    found: Findings,
-    is_digested: bool,
 }
 
 /// The words of the command line.
-fn words<R: AllocGlobal + Env>(rt: &R) -> Result<Vec<String>, Refused> {
+fn words<R: AllocGlobal + Env>(rt: &R) -> Result<Vec<String>, Trouble> {
     let Ok(args) = std::env::args(rt) else {
-        return Err(Refused::Setup);
+        return Err(Trouble::Setup);
     };
-    match args.collect(rt.alloc()) {
-        Ok(words) => Ok(words),
-        Err(_) => Err(Refused::Setup),
-    }
+    args.collect(rt.alloc()).map_err(|_| Trouble::Setup)
 }
 
-/// Does what the words of the command line ask for.
-fn asked<R: Input + AllocGlobal + Env + Threads + Wait + Sync>(rt: &R) -> Result<Report, Refused> {
+/// Makes the sweep that the first word after the program's name names, over the input.
+fn asked<R: Input + AllocGlobal + Env + Threads + Wait + Sync>(rt: &R) -> Result<Answers, Trouble> {
     let words = words(rt)?;
-    let report = report_on(rt, words.as_slice());
-    drop(words);
-    report
-}
-
-/// Makes the sweep that the first word after the program's name names. A further word asks for its digest.
-fn report_on<R: Input + AllocGlobal + Threads + Wait + Sync>(
-    rt: &R,
-    words: &[String],
-) -> Result<Report, Refused> {
     let Some(name) = words.get(1) else {
-        return Err(Refused::Fault);
+        return Err(Trouble::Fault);
     };
-    let found = sweep(rt, name.as_str())?;
-    let is_digested = words.len() > 2;
-    Ok(Report { found, is_digested })
-}
-
-/// Prints how many calls answered.
-fn print_answers(
-    rt: &impl Print,
-    answers: Answers,
-    how: &str,
-    is_digested: bool,
-) -> std::io::Result<()> {
-    let Answers { count, digest } = answers;
-    println!(rt; "{count} answered{how}")?;
-    if is_digested {
-        println!(rt; "digest {digest:016x}")?;
-    }
-    Ok(())
-}
-
-/// Prints why there is no answer.
-fn print_refused(rt: &impl Print, refused: Refused) -> std::io::Result<()> {
-    match refused {
-        Refused::Setup => println!(rt; "no memory outside the calls"),
-        Refused::Memory => println!(rt; "no memory"),
-        Refused::Fault => println!(rt; "another fault"),
-        Refused::Different => println!(rt; "another answer"),
-    }
+    let mut source = CountingReader::new(rt.reader());
+    let input = setup(read_all(rt.alloc(), &mut source))?;
+    swept(rt, name.as_str(), rt.alloc(), input.as_slice())
 }
 
 /// Prints what was found.
-fn print(rt: &impl Print, report: Report) -> std::io::Result<()> {
-    let Report { found, is_digested } = report;
+fn print(rt: &impl Print, found: Result<Answers, Trouble>) -> std::io::Result<()> {
     match found {
-        Findings::Answered(answers) => print_answers(rt, answers, "", is_digested),
-        Findings::Again(answers) => {
-            print_answers(rt, answers, ", one when it was made again", is_digested)
-        }
-        Findings::Changed => println!(rt; "out of memory, and something is changed"),
-        Findings::Lost => println!(rt; "out of memory, and no answer when made again"),
-        Findings::NoAnswer(refused) => print_refused(rt, refused),
+        Ok(
+            Answers {
+                count,
+                again: false,
+            },
+        ) => println!(rt; "{count} answered"),
+        Ok(Answers { count, .. }) => println!(rt; "{count} answered, one when it was made again"),
+        Err(trouble) => println!(rt; "{}", trouble.words()),
     }
 }
 
 fn main(rt: HostRuntime) -> ExitCode {
-    let report = asked(&rt).unwrap_or_else(|refused| Report {
-        found: Findings::NoAnswer(refused),
-        is_digested: false,
-    });
-    match print(&rt, report) {
+    match print(&rt, asked(&rt)) {
         Ok(()) => ExitCode::from(0),
         Err(_) => ExitCode::from(1),
     }

@@ -1,6 +1,6 @@
 use Rattle.std.proofs.Common.{◌≡◌, ◌∙◌, arith, get_or}
 use Rattle.std.proofs.lemmas.List.{get_or_default}
-use Rattle.zy_alloc_failures.proofs.growths.grown.Goals as goal
+use Rattle.zy_alloc_failures.proofs.parts.grown.Goals as goal
 
 -- a page with that low key would be the key's own
 pub grow-requires : goal.grow-requires
