@@ -1,5 +1,5 @@
 -- What a run of a scenario text does.
-use Rattle.std.specs.Prelude.{◌≡◌, ℕ, List, Option, None, Some, Result}
+use Rattle.std.specs.Prelude.{◌≡◌, ℕ, List, None, Some, Result}
 use Rattle.zy_io.specs.Streams.{Sent}
 use Rattle.zy_io.specs.Inputs.{IsAccepted, OnInput}
 use Rattle.zy_io.specs.declared.reading.ReadFault.{ReadFault}

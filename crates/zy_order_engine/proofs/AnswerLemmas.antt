@@ -1,5 +1,5 @@
 -- What the parts of the engine make together.
-use Rattle.std.proofs.Common.{ℕ, List, [], Option, None, Ok, Err, inl, inr, refl, sym, arith}
+use Rattle.std.proofs.Common.{ℕ, List, [], None, Ok, Err, inl, inr, refl, sym, arith}
 use Rattle.std.proofs.Common.{append-nil}
 use Rattle.zy_io.specs.Streams.{Sent}
 use Rattle.zy_io.specs.declared.writing.TextFault.{TextFault}
@@ -30,8 +30,8 @@ use Rattle.zy_order_engine.specs.Missing.{AreGapsIn}
 -- ---- a text of an answer
 
 -- what was written of it, where a call failed, is a part of it
-pub wrote_failed : (o : OrderOptions) (sc : Scenario) (lines : List NumberedLine) (gaps : Gaps) (a : OrderAnswer) (old new : Option (List ℕ))
-    (before after : ℕ) (f : TextFault) → AreGapsIn o.gap lines gaps → IsAnswer (history_of None sc) (steps lines) gaps a
+pub wrote_failed : (o : OrderOptions) (sc : Scenario) (lines : List NumberedLine) (gaps : Gaps) (a : OrderAnswer) (old new : Sent)
+    (f : TextFault) → AreGapsIn o.gap lines gaps → IsAnswer (history_of None sc) (steps lines) gaps a
     → WroteSome {X = Unit {0}} (IsTextOf o.wording sc a) old new (Err f)
     → WroteOrder (IsAnswerOf o sc lines) old new (Err f)
 wrote_failed o sc lines gaps a old new Write are is wrote =
@@ -79,14 +79,14 @@ module _ (o : OrderOptions) (input : List ℕ) (old : Sent) where
     answer_to a text is = record { scenario = sc; means = means; lines = lines; says = says; is = is }
 
     -- and a part of a text of one is that of one
-    part_to : (new : Option (List ℕ)) → WrotePart (IsAnswerOf o sc lines) old new → WrotePart (IsAnswerTo o input) old new
+    part_to : (new : Sent) → WrotePart (IsAnswerOf o sc lines) old new → WrotePart (IsAnswerTo o input) old new
     part_to new (inl same) = inl same
     part_to new (inr p) = inr (p.0, p.1, answer_to p.0 p.1 p.2, p.3)
 
     -- a text of the answer went out
-    pub wrote_to : (new : Option (List ℕ)) (after : ℕ) (r : OrderedLogs) → WroteOrder (IsAnswerOf o sc lines) old new (Ok r.report)
+    pub wrote_to : (new : Sent) (r : OrderedLogs) → WroteOrder (IsAnswerOf o sc lines) old new (Ok r.report)
         → Answers o input old new (Ok r)
-    wrote_to new after r wrote =
+    wrote_to new r wrote =
         let text = wrote.0.0 in
         let is = answer_to r.report.answer text wrote.0.1 in
         record {
@@ -98,16 +98,16 @@ module _ (o : OrderOptions) (input : List ℕ) (old : Sent) where
         }
 
     -- or a part of one did
-    pub failed_to : (new : Option (List ℕ)) (after : ℕ) (f : TextFault) → WroteOrder (IsAnswerOf o sc lines) old new (Err f)
+    pub failed_to : (new : Sent) (f : TextFault) → WroteOrder (IsAnswerOf o sc lines) old new (Err f)
         → Answers o input old new (Err (Bench (of_writing f)))
-    failed_to new after Write wrote = record {
+    failed_to new Write wrote = record {
       answered = tt;
       part = part_to new wrote.0;
       fault = inr refl;
       quiet = λ q. absurd q;
       writes = wrote.1;
     }
-    failed_to new after Memory wrote = record {
+    failed_to new Memory wrote = record {
       answered = tt;
       part = part_to new wrote.0;
       fault = inl tt;

@@ -1,5 +1,5 @@
 -- A scenario that is written with choices behind its own.
-use Rattle.std.specs.Prelude.{ℕ, List, Option, Result}
+use Rattle.std.specs.Prelude.{List, Result}
 use Rattle.zy_io.specs.Streams.{Sent}
 use Rattle.zy_io.specs.declared.writing.TextFault.{TextFault}
 use Rattle.zy_isa.specs.declared.choice.Choice.{Choice}

@@ -67,7 +67,7 @@ returns-in-Ok-clause-answers g c =
     let old = g.K.Sink.sent c.args.sink.now in
     let new = g.K.Sink.sent c.order_from.new.sink in
     let ordered : OrderedLogs = record { report = c.in-Ok.report; machine = c.in_ok-machine.machine; lines = c.in_ok-lines.lines } in
-    wrote_to c.args.options input old before sc c.in_ok-lines.lines.items means says new after ordered
+    wrote_to c.args.options input old sc c.in_ok-lines.lines.items means says new ordered
     (subst (λ (ls : List NumberedLine). WroteOrder (IsAnswerOf c.args.options sc ls) old new (Ok c.in-Ok.report)) c.deref.ensures.value
     (subst (λ (s : Scenario). WroteOrder (IsAnswerOf c.args.options s c.deref.result.now) old new (Ok c.in-Ok.report))
     (ap (λ (h : History). h.scenario) c.in_ok-machine.ensures.run) c.in-Ok.ensures))
@@ -93,7 +93,7 @@ returns-in-Err-clause-answers g c =
     let new = g.K.Sink.sent c.order_from.new.sink in
     let fault = c.in-Err.fault in
     rw c.from.ensures (
-    failed_to c.args.options input old before sc c.in_ok-lines.lines.items means says new after fault
+    failed_to c.args.options input old sc c.in_ok-lines.lines.items means says new fault
     (subst (λ (ls : List NumberedLine). WroteOrder (IsAnswerOf c.args.options sc ls) old new (Err fault)) c.deref.ensures.value
     (subst (λ (s : Scenario). WroteOrder (IsAnswerOf c.args.options s c.deref.result.now) old new (Err fault))
     (ap (λ (h : History). h.scenario) c.in_ok-machine.ensures.run) c.in-Err.ensures))
