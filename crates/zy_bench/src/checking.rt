@@ -5,13 +5,13 @@ use crate::output::{Output, pass};
 use std::io::{Read, Write};
 use zy_check::Verdict;
 use zy_cli::exit_status::{DONE, NOT_TABLE};
-use zy_diagnostics::line::whole_line;
 use zy_engine::checking::check_bytes;
 use zy_engine::{BenchFault, CheckedListing};
 use zy_io::CountingReader;
 use zy_report::excerpt::Differing;
 use zy_report::explained::explain;
 use zy_report::origin::Origin;
+use zy_source_words::line::whole_line;
 use zy_text::cut::cut_len;
 
 /// How a listing ends whose rows are not those of the commit order.

@@ -3,10 +3,11 @@
 use crate::table::command_of;
 use clap::error::ErrorKind;
 use std::fmt;
-use zy_diagnostics::{Bytes, CommandName};
+use zy_diagnostics::CommandName;
 use zy_engine::debugging::{MAX_EVERY, MAX_RING};
 use zy_isa::MAX_CHOICES;
 use zy_search::MOST_THREADS;
+use zy_source_words::Bytes;
 
 /// A flag that takes a number.
 #[derive(Clone, Copy)]

@@ -1,7 +1,7 @@
 //! What the lines above one say.
 
-use crate::line::{Statement, is_line_feed};
 use zy_isa::Version;
+use zy_source_words::line::{Statement, is_line_feed};
 use zy_text::names::is;
 use zy_text::numbers::number_of;
 

@@ -3,8 +3,8 @@
 use crate::above::{Above, TextPart};
 use crate::form::{Form, Shape};
 use crate::head::Head;
-use crate::line::Statement;
 use zy_asm::Reason;
+use zy_source_words::line::Statement;
 use zy_text::names::{is, is_name, is_numeral, label_of};
 use zy_text::numbers::number_of;
 

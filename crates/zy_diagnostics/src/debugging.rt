@@ -1,9 +1,9 @@
 //! Why a line is no command of the debugger.
 
-use crate::bytes::{Bytes, Quoted};
-use crate::line::Statement;
-use crate::meant::{Meant, tell_meant};
 use std::fmt;
+use zy_source_words::bytes::{Bytes, Quoted};
+use zy_source_words::line::Statement;
+use zy_source_words::meant::{Meant, tell_meant};
 use zy_text::names::is;
 use zy_text::numbers::number_of;
 

@@ -1,10 +1,10 @@
 //! The forms of statements.
 
-use crate::bytes::Bytes;
-use crate::label::operation_at;
-use crate::line::Statement;
 use std::fmt;
 use zy_isa::{Operation, Version};
+use zy_source_words::bytes::Bytes;
+use zy_source_words::label::operation_at;
+use zy_source_words::line::Statement;
 use zy_text::names::is;
 
 /// What follows the first word of a statement, or in a choice the second.

@@ -1,7 +1,7 @@
 //! The statements of the header.
 
 use crate::above::TextPart;
-use crate::line::Statement;
+use zy_source_words::line::Statement;
 use zy_text::names::is;
 
 /// A statement of the header.

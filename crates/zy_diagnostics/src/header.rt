@@ -1,15 +1,15 @@
 //! What is wrong with the head of a text, or with its end.
 
 use crate::above::TextPart;
-use crate::bytes::{Bytes, Quoted};
 use crate::command::CommandName;
 use crate::head::Head;
-use crate::meant::Meant;
-use crate::number::number_behind;
 use crate::text::TextAdvice;
 use crate::unended::END_ABOVE_LOGS;
 use crate::unknown::begins_other_comment;
 use std::fmt;
+use zy_source_words::bytes::{Bytes, Quoted};
+use zy_source_words::meant::Meant;
+use zy_source_words::number::number_behind;
 use zy_text::names::is;
 
 /// What a byte order mark is in UTF-8.

@@ -4,7 +4,6 @@
 #![tactic(auto)]
 
 mod above;
-pub mod bytes;
 pub mod command;
 mod culprit;
 pub mod debugging;
@@ -12,21 +11,13 @@ mod form;
 mod head;
 mod header;
 pub mod image;
-mod label;
-pub mod line;
-mod meant;
-mod negative;
-mod number;
 mod order;
-pub mod place;
-mod program;
 mod programs;
 pub mod text;
 mod unended;
 mod unknown;
 mod wording;
 
-pub use crate::bytes::Bytes;
 pub use crate::command::CommandName;
 pub use crate::debugging::BadCommand;
 pub use crate::image::ImageAdvice;

@@ -1,12 +1,12 @@
 //! What is wrong with programs, their names and their labels.
 
-use crate::bytes::Quoted;
-use crate::label::label;
-use crate::program::SourceProgram;
 use crate::text::TextAdvice;
 use std::fmt;
 use zy_asm::Reason;
 use zy_isa::ProgramFault;
+use zy_source_words::bytes::Quoted;
+use zy_source_words::label::label;
+use zy_source_words::program::SourceProgram;
 
 impl<'a> TextAdvice<'a> {
     /// The last program above the line.

@@ -5,15 +5,16 @@ use crate::command::{CommandName, ForImage};
 use crate::culprit::culprit;
 use crate::form::Form;
 use crate::image::is_image;
-use crate::label::operation_at;
-use crate::line::{SourceLine, SourceWord, Statement, lines_above};
 use crate::order::tell_not_above;
-use crate::place::MarkedWord;
 use crate::unknown::Unknown;
 use std::fmt;
 use std::str::from_utf8;
 use zy_asm::{LineFault, Reason};
 use zy_isa::ProgramFault;
+use zy_source_words::label::operation_at;
+use zy_source_words::line::{SourceLine, SourceWord, Statement, lines_above};
+use zy_source_words::place::MarkedWord;
+use zy_source_words::position::Position;
 
 /// Why a text is rejected: what is wrong, what to write, and where.
 #[derive(Clone, Copy)]
@@ -26,15 +27,6 @@ pub struct TextAdvice<'a> {
     pub(crate) above: Above,
     pub(crate) line: SourceLine<'a>,
     pub(crate) statement: Statement<'a>,
-}
-
-/// A place of a text.
-#[derive(Clone, Copy)]
-pub struct Position {
-    /// The number of the line, from 1.
-    pub line: usize,
-    /// The number of the character in it, from 1.
-    pub column: usize,
 }
 
 impl<'a> TextAdvice<'a> {

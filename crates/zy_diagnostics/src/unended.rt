@@ -1,10 +1,10 @@
 //! What is wrong where lines of logs follow a scenario without its line `end`.
 
 use crate::command::CommandName;
-use crate::line::{Statement, is_line_feed};
 use crate::text::TextAdvice;
 use std::fmt;
 use zy_asm::Reason;
+use zy_source_words::line::{Statement, is_line_feed};
 use zy_text::names::is;
 
 /// What to write.

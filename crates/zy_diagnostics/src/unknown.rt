@@ -1,14 +1,14 @@
 //! What was meant by a word that is not known.
 
 use crate::above::{Above, TextPart};
-use crate::bytes::{Bytes, Quoted};
 use crate::form::{Form, Shape, is_plain_of_node};
-use crate::line::Statement;
-use crate::meant::{Meant, tell_meant};
-use crate::negative::Negative;
 use crate::wording::tell_commas;
 use std::fmt;
 use zy_isa::Version;
+use zy_source_words::bytes::{Bytes, Quoted};
+use zy_source_words::line::Statement;
+use zy_source_words::meant::{Meant, tell_meant};
+use zy_source_words::negative::Negative;
 use zy_text::names::is;
 use zy_text::numbers::number_of;
 

@@ -1,16 +1,16 @@
 //! What is wrong with the words of a line.
 
 use crate::above::TextPart;
-use crate::bytes::{Bytes, Quoted};
 use crate::form::{Form, Shape};
 use crate::head::Head;
-use crate::negative::Negative;
-use crate::number::{is_number, number_behind};
 use crate::text::TextAdvice;
 use crate::unknown::{
     INSTRUCTIONS, MeantHere, begins_other_comment, tell_instructions, tell_subtraction,
 };
 use std::fmt;
+use zy_source_words::bytes::{Bytes, Quoted};
+use zy_source_words::negative::Negative;
+use zy_source_words::number::{is_number, number_behind};
 use zy_text::names::{is, is_name, label_of};
 
 /// The most bytes of a name.

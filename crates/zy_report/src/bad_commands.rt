@@ -3,9 +3,9 @@
 use crate::origin::Origin;
 use zy_debug_text::command::command_of;
 use zy_diagnostics::BadCommand;
-use zy_diagnostics::line::is_line_feed;
-use zy_diagnostics::text::Position;
 use zy_engine::format::split_scenario;
+use zy_source_words::Position;
+use zy_source_words::line::is_line_feed;
 use zy_text::Words;
 use zy_text::line::take_line;
 

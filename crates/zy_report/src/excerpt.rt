@@ -1,9 +1,8 @@
 //! Lines of an input and of a listing, as a person is shown them.
 
 use std::fmt;
-use zy_diagnostics::Bytes;
-use zy_diagnostics::bytes::common_prefix;
-use zy_diagnostics::text::Position;
+use zy_source_words::bytes::common_prefix;
+use zy_source_words::{Bytes, Position};
 use zy_text::names::is;
 
 /// How many bytes of a line are shown.

@@ -6,8 +6,6 @@ use crate::origin::Origin;
 use crate::summary::Count;
 use std::alloc::{AllocError, Global};
 use std::fmt;
-use zy_diagnostics::line::SourceLine;
-use zy_diagnostics::text::Position;
 use zy_io::{Line, LineBuffer};
 use zy_isa::{Actor, Choice, MAX_CHOICES};
 use zy_listing::StepLine;
@@ -15,6 +13,8 @@ use zy_logs::{LogLine, Logged, NumberedLine};
 use zy_machine::{Fault, Machine};
 use zy_order::Taken;
 use zy_order_engine::{LogFormat, OrderedLogs};
+use zy_source_words::Position;
+use zy_source_words::line::SourceLine;
 use zy_table::Entry;
 
 /// A number of lines of each actor.

@@ -1,7 +1,7 @@
 //! Where a fault is, as the beginning of its line says.
 
 use std::fmt;
-use zy_diagnostics::text::Position;
+use zy_source_words::Position;
 
 /// Where a fault is.
 #[derive(Clone, Copy)]

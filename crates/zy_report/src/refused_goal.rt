@@ -1,9 +1,9 @@
 //! Why the text of a goal is rejected.
 
 use std::fmt;
-use zy_diagnostics::line::SourceWord;
-use zy_diagnostics::place::MarkedWord;
 use zy_queries::WordFault;
+use zy_source_words::line::SourceWord;
+use zy_source_words::place::MarkedWord;
 
 /// A goal that is rejected, and the word that does not fit.
 #[derive(Clone, Copy)]

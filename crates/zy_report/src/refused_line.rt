@@ -2,9 +2,9 @@
 
 use crate::origin::Origin;
 use std::fmt;
-use zy_diagnostics::line::{SourceLine, SourceWord, Statement};
-use zy_diagnostics::place::MarkedWord;
 use zy_logs::LogLineFault;
+use zy_source_words::line::{SourceLine, SourceWord, Statement};
+use zy_source_words::place::MarkedWord;
 
 /// A line of a log that is rejected, and the word that does not fit.
 #[derive(Clone, Copy)]

@@ -5,12 +5,12 @@ use crate::origin::Origin;
 use crate::refused_line::misfit;
 use std::alloc::Global;
 use std::fmt;
-use zy_diagnostics::line::{SourceLine, Statement, whole_line};
-use zy_diagnostics::text::Position;
 use zy_engine::BenchFault;
 use zy_json::logs::read_objects;
 use zy_json::{JsonLineFault, JsonLogFault};
 use zy_logs::LogLineFault;
+use zy_source_words::Position;
+use zy_source_words::line::{SourceLine, Statement, whole_line};
 
 /// Where a line begins.
 fn start_of(line: usize) -> Position {

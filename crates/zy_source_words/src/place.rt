@@ -2,7 +2,7 @@
 
 use crate::bytes::{show_byte, show_code};
 use crate::line::{SourceLine, SourceWord};
-use crate::text::Position;
+use crate::position::Position;
 use std::fmt;
 
 /// How many bytes in front of a word, of the word, and behind it are shown.
