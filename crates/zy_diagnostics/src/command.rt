@@ -44,7 +44,7 @@ impl fmt::Display for CommandName {
     }
 }
 
-/// What is to be done with an image that was given in the place of a text.
+/// What to do with an image where a command reads a text.
 #[derive(Clone, Copy)]
 pub struct ForImage(pub CommandName);
 
@@ -69,7 +69,7 @@ impl fmt::Display for ForImage {
     }
 }
 
-/// What is to be done with a text that was given in the place of an image.
+/// What to do with a text where a command reads an image.
 #[derive(Clone, Copy)]
 pub struct ForText(pub CommandName);
 

@@ -1,18 +1,18 @@
-//! Which word of a line is at fault.
+//! The word of a line that is at fault.
 
-use crate::above::{Above, TextPart};
-use crate::form::{Form, Shape};
-use crate::head::Head;
+use crate::header_statement::HeaderStatement;
+use crate::line_context::{LineContext, TextPart};
+use crate::statement_form::{Shape, StatementForm};
 use zy_asm::Reason;
-use zy_source_words::line::Statement;
+use zy_source_words::Statement;
 use zy_text::names::{is, is_name, is_numeral, label_of};
 use zy_text::numbers::number_of;
 
-/// The number, from 0, of the word for which a line is rejected.
-pub fn culprit(statement: Statement<'_>, above: Above, reason: Reason) -> usize {
-    let form = Form::of(above.version, statement);
+/// The number, from 0, of the word at fault in a line.
+pub fn culprit(statement: Statement<'_>, context: LineContext, reason: Reason) -> usize {
+    let form = StatementForm::of(context.version, statement);
     match reason {
-        Reason::NotTheHeader => in_header(statement, above.part()),
+        Reason::NotTheHeader => in_header(statement, context.part()),
         Reason::NotKnown(_) => unknown(statement, form),
         Reason::NotAName(_) => no_name(statement, form),
         Reason::WordCount => miscounted(statement, form),
@@ -26,9 +26,9 @@ pub fn culprit(statement: Statement<'_>, above: Above, reason: Reason) -> usize 
     }
 }
 
-/// The word that does not belong to a statement of the header.
+/// The first word that a statement of the header cannot have.
 fn in_header(statement: Statement<'_>, part: TextPart) -> usize {
-    if !Head::of(part).begins(statement) {
+    if !HeaderStatement::of(part).begins(statement) {
         return 0;
     }
     match statement.count() {
@@ -38,8 +38,8 @@ fn in_header(statement: Statement<'_>, part: TextPart) -> usize {
     }
 }
 
-/// The first word that is not known.
-fn unknown(statement: Statement<'_>, form: Option<Form<'_>>) -> usize {
+/// The first unknown word.
+fn unknown(statement: Statement<'_>, form: Option<StatementForm<'_>>) -> usize {
     let Some(form) = form else {
         return 0;
     };
@@ -51,7 +51,7 @@ fn unknown(statement: Statement<'_>, form: Option<Form<'_>>) -> usize {
     }
 }
 
-/// The first word from here on that is no register.
+/// The first of two words that is not a register.
 fn no_register(statement: Statement<'_>, at: usize) -> usize {
     match statement.text(at) {
         [b'r', b'0'..=b'7'] => at.saturating_add(1),
@@ -59,22 +59,25 @@ fn no_register(statement: Statement<'_>, at: usize) -> usize {
     }
 }
 
-/// The word that is no name where one is due.
-fn no_name(statement: Statement<'_>, form: Option<Form<'_>>) -> usize {
+/// The word that should be a name.
+fn no_name(statement: Statement<'_>, form: Option<StatementForm<'_>>) -> usize {
     if let Some(label) = label_of(statement.text(0)) {
         if !is_name(label) {
             return 0;
         }
     }
-    match form {
-        Some(form) if form.shape == Shape::Jump => form.at.saturating_add(3),
-        Some(form) if form.shape == Shape::Txn => 1,
+    let Some(form) = form else {
+        return 2;
+    };
+    match form.shape {
+        Shape::Jump => form.at.saturating_add(3),
+        Shape::Txn => 1,
         _ => 2,
     }
 }
 
-/// The word that is no number, or one out of its range.
-fn no_number(statement: Statement<'_>, form: Option<Form<'_>>) -> usize {
+/// The word that is not a number in its range.
+fn no_number(statement: Statement<'_>, form: Option<StatementForm<'_>>) -> usize {
     let Some(form) = form else {
         return 1;
     };
@@ -88,7 +91,7 @@ fn no_number(statement: Statement<'_>, form: Option<Form<'_>>) -> usize {
     }
 }
 
-/// The word of a row that is no number, or one out of its range.
+/// The word of a row that is not a number in its range.
 fn no_key(statement: Statement<'_>) -> usize {
     match number_of(statement.text(1)) {
         Some(key) if key <= u64::from(u16::MAX) => 2,
@@ -96,7 +99,7 @@ fn no_key(statement: Statement<'_>) -> usize {
     }
 }
 
-/// The word of a choice that is no number, or one out of its range.
+/// The word of a choice that is not a number in its range.
 fn no_transaction(statement: Statement<'_>) -> usize {
     let word = statement.text(2);
     if is_numeral(word) && number_of(word).is_none() {
@@ -106,8 +109,8 @@ fn no_transaction(statement: Statement<'_>) -> usize {
     }
 }
 
-/// The first word too many; where there are too few, the one that asks for more.
-fn miscounted(statement: Statement<'_>, form: Option<Form<'_>>) -> usize {
+/// The first word too many, or else the word that needs more behind it.
+fn miscounted(statement: Statement<'_>, form: Option<StatementForm<'_>>) -> usize {
     let Some(form) = form else {
         return 0;
     };
@@ -121,7 +124,7 @@ fn miscounted(statement: Statement<'_>, form: Option<Form<'_>>) -> usize {
     }
 }
 
-/// The word from here on that is not `x` and a number.
+/// The first word from this one on that is not part of `x N`.
 fn not_times(statement: Statement<'_>, at: usize) -> usize {
     if is(statement.text(at), b"x") && statement.count() > at.saturating_add(2) {
         at.saturating_add(2)

@@ -1,24 +1,25 @@
-//! Words that help: of an input that is rejected, what is wrong, what to write, and where. They are read from its bytes
-//! again, beside the reader that rejected it, so nothing is proved of them but that each function is safe and ends. None
-//! of them takes memory.
+//! Advice on a rejected input: what is wrong with it, what to write, and where. A function here reads the input's bytes
+//! again, beside the reader that rejected them, so the only proof about it is that it is safe and ends. None of them takes
+//! memory.
 #![tactic(auto)]
 
-mod above;
-pub mod command;
+mod bad_command;
+mod command;
 mod culprit;
-pub mod debugging;
-mod form;
-mod head;
-mod header;
-pub mod image;
-mod order;
-mod programs;
-pub mod text;
-mod unended;
-mod unknown;
-mod wording;
+mod end_advice;
+mod header_advice;
+mod header_statement;
+mod image_advice;
+mod instruction_words;
+mod line_context;
+mod program_advice;
+mod statement_form;
+mod statement_order;
+mod text_advice;
+mod unknown_word;
+mod word_advice;
 
+pub use crate::bad_command::BadCommand;
 pub use crate::command::CommandName;
-pub use crate::debugging::BadCommand;
-pub use crate::image::ImageAdvice;
-pub use crate::text::TextAdvice;
+pub use crate::image_advice::ImageAdvice;
+pub use crate::text_advice::TextAdvice;

@@ -1,7 +1,7 @@
 //! Lines of an input and of a listing, as a person is shown them.
 
 use std::fmt;
-use zy_source_words::bytes::common_prefix;
+use zy_source_words::prefix::common_prefix;
 use zy_source_words::{Bytes, Position};
 use zy_text::names::is;
 

@@ -13,8 +13,7 @@ use zy_logs::{LogLine, Logged, NumberedLine};
 use zy_machine::{Fault, Machine};
 use zy_order::Taken;
 use zy_order_engine::{LogFormat, OrderedLogs};
-use zy_source_words::Position;
-use zy_source_words::line::SourceLine;
+use zy_source_words::{Position, SourceLine};
 use zy_table::Entry;
 
 /// A number of lines of each actor.

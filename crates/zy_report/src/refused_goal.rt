@@ -2,8 +2,7 @@
 
 use std::fmt;
 use zy_queries::WordFault;
-use zy_source_words::line::SourceWord;
-use zy_source_words::place::MarkedWord;
+use zy_source_words::{MarkedWord, SourceWord};
 
 /// A goal that is rejected, and the word that does not fit.
 #[derive(Clone, Copy)]

@@ -3,8 +3,7 @@
 use crate::origin::Origin;
 use std::fmt;
 use zy_logs::LogLineFault;
-use zy_source_words::line::{SourceLine, SourceWord, Statement};
-use zy_source_words::place::MarkedWord;
+use zy_source_words::{MarkedWord, SourceLine, SourceWord, Statement};
 
 /// A line of a log that is rejected, and the word that does not fit.
 #[derive(Clone, Copy)]

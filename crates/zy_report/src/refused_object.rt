@@ -9,8 +9,8 @@ use zy_engine::BenchFault;
 use zy_json::logs::read_objects;
 use zy_json::{JsonLineFault, JsonLogFault};
 use zy_logs::LogLineFault;
-use zy_source_words::Position;
-use zy_source_words::line::{SourceLine, Statement, whole_line};
+use zy_source_words::line::whole_line;
+use zy_source_words::{Position, SourceLine, Statement};
 
 /// Where a line begins.
 fn start_of(line: usize) -> Position {

@@ -1,8 +1,8 @@
-//! Bytes of an input, as a person is shown them.
+//! Bytes of a source, as a message shows them.
 
 use std::fmt;
 
-/// Some bytes of an input: one that does not print is shown as `\xNN`.
+/// Some bytes of a source. A byte that does not print is shown as `\xNN`.
 #[derive(Clone, Copy)]
 pub struct Bytes<'a>(pub &'a [u8]);
 
@@ -15,7 +15,7 @@ impl fmt::Display for Bytes<'_> {
     }
 }
 
-/// Shows one byte.
+/// Shows a byte.
 pub fn show_byte<W: fmt::Write>(f: &mut fmt::Formatter<W>, byte: u8) -> fmt::Result {
     if byte.is_ascii_graphic() || byte == b' ' {
         f.write_char(char::from(byte))
@@ -29,11 +29,11 @@ pub fn show_code<W: fmt::Write>(f: &mut fmt::Formatter<W>, byte: u8) -> fmt::Res
     write!(f, "\\x{byte:02x}")
 }
 
-/// A word of an input, in quotes; what is over 40 bytes of it is shown as two dots.
+/// A word of a source in quotes. Two dots stand for what follows its first 40 bytes.
 #[derive(Clone, Copy)]
 pub struct Quoted<'a>(pub &'a [u8]);
 
-/// How many bytes of a word are shown.
+/// The most bytes of a word that are shown.
 const MOST: usize = 40;
 
 impl fmt::Display for Quoted<'_> {
@@ -42,16 +42,4 @@ impl fmt::Display for Quoted<'_> {
         let dots = if self.0.len() > MOST { ".." } else { "" };
         write!(f, "'{front}'{dots}")
     }
-}
-
-/// How long the longest common prefix of two texts is.
-pub fn common_prefix(text: &[u8], other: &[u8]) -> usize {
-    let mut count = 0usize;
-    for (byte, there) in text.iter().zip(other.iter()) {
-        if byte != there {
-            return count;
-        }
-        count = count.saturating_add(1);
-    }
-    count
 }

@@ -1,4 +1,4 @@
-//! The lines of an input, and the words of a line.
+//! The lines of a source, and the words of a line.
 
 use zy_text::line::is_space;
 use zy_text::names::is;
@@ -8,55 +8,55 @@ pub fn is_line_feed(byte: &u8) -> bool {
     *byte == b'\n'
 }
 
-/// Whether a byte parts words.
+/// Whether a byte separates words.
 fn is_gap(byte: &u8) -> bool {
     is_space(*byte)
 }
 
-/// A line of an input.
+/// A line of a source.
 #[derive(Clone, Copy)]
 pub struct SourceLine<'a> {
     /// Its number, from 1.
     pub number: usize,
-    /// Its bytes, without its end.
+    /// Its bytes, without the line feed.
     pub bytes: &'a [u8],
 }
 
 impl<'a> SourceLine<'a> {
-    /// The line of this number; where the input has fewer, it is empty.
-    pub fn of(input: &'a [u8], number: usize) -> SourceLine<'a> {
-        let bytes = input.split(is_line_feed).nth(number.saturating_sub(1));
+    /// The line of this number; an empty one if the source has fewer.
+    pub fn of(source: &'a [u8], number: usize) -> SourceLine<'a> {
+        let bytes = source.split(is_line_feed).nth(number.saturating_sub(1));
         SourceLine {
             number,
             bytes: bytes.unwrap_or(&[]),
         }
     }
 
-    /// The line as far as its comment.
+    /// The line without its comment.
     pub fn statement(self) -> Statement<'a> {
         Statement::of(self.bytes)
     }
 }
 
-/// The lines of an input above the one of this number.
-pub fn lines_above(input: &[u8], number: usize) -> &[u8] {
-    let mut rest = input;
+/// The lines of a source above the one of this number.
+pub fn lines_above(source: &[u8], number: usize) -> &[u8] {
+    let mut rest = source;
     for _ in 1..number {
         let (_, below) = first_line(rest);
         rest = below;
     }
-    let front = input.get(..input.len().saturating_sub(rest.len()));
-    front.unwrap_or(input)
+    let front = source.get(..source.len().saturating_sub(rest.len()));
+    front.unwrap_or(source)
 }
 
-/// The line of this number, from 1, with its end; empty where the input has fewer.
-pub fn whole_line(input: &[u8], number: usize) -> &[u8] {
-    let above = lines_above(input, number);
-    let (line, _) = first_line(input.get(above.len()..).unwrap_or(&[]));
+/// The line of this number, from 1, with its line feed; empty if the source has fewer.
+pub fn whole_line(source: &[u8], number: usize) -> &[u8] {
+    let above = lines_above(source, number);
+    let (line, _) = first_line(source.get(above.len()..).unwrap_or(&[]));
     line
 }
 
-/// The first line of a text with its end, and what follows it.
+/// The first line of a text with its line feed, and the rest.
 fn first_line(text: &[u8]) -> (&[u8], &[u8]) {
     match text.iter().position(is_line_feed) {
         Some(end) => text.split_at(end + 1),
@@ -67,7 +67,7 @@ fn first_line(text: &[u8]) -> (&[u8], &[u8]) {
 /// A word of a line.
 #[derive(Clone, Copy)]
 pub struct SourceWord<'a> {
-    /// How many bytes of the line come before it.
+    /// How many bytes of the line precede it.
     pub start: usize,
     /// Its bytes.
     pub bytes: &'a [u8],
@@ -81,7 +81,7 @@ pub struct Statement<'a> {
 }
 
 impl<'a> Statement<'a> {
-    /// What comes before a line's comment.
+    /// The part of a line before its comment.
     pub fn of(line: &'a [u8]) -> Statement<'a> {
         let end = line.iter().position(|byte| *byte == b';');
         let front = end.and_then(|end| line.get(..end));
@@ -106,7 +106,7 @@ impl<'a> Statement<'a> {
         None
     }
 
-    /// The bytes of the word of this number; none where there are fewer.
+    /// The bytes of the word of this number; none if there are fewer.
     pub fn text(self, number: usize) -> &'a [u8] {
         match self.word(number) {
             Some(word) => word.bytes,
@@ -120,7 +120,7 @@ impl<'a> Statement<'a> {
         words.any(|other| is(other, word))
     }
 
-    /// The last word; nothing if there is none.
+    /// The bytes of the last word; none if there is no word.
     pub fn last(self) -> &'a [u8] {
         self.text(self.count().saturating_sub(1))
     }

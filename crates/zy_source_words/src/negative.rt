@@ -1,4 +1,4 @@
-//! Numbers below nought, which a register has as what is added to 2^32.
+//! Negative numbers. A register holds -n as 2^32 - n.
 
 use crate::line::Statement;
 use std::fmt;
@@ -7,21 +7,18 @@ use zy_text::numbers::number_of;
 /// How many values a register has.
 const VALUES: u64 = 1 << 32;
 
-/// A number below nought, without its sign.
+/// A negative number, without its sign.
 #[derive(Clone, Copy)]
 pub struct Negative(u64);
 
 impl Negative {
     /// The number that a word spells: `-` and digits.
     pub fn of(word: &[u8]) -> Option<Negative> {
-        match number_of(word.strip_prefix(b"-")?) {
-            Some(number) => Negative::less(number),
-            None => None,
-        }
+        Negative::minus(number_of(word.strip_prefix(b"-")?)?)
     }
 
-    /// The number that is this much less than nought.
-    pub fn less(number: u64) -> Option<Negative> {
+    /// Minus this number, if a register can hold it.
+    pub fn minus(number: u64) -> Option<Negative> {
         if (1..VALUES).contains(&number) {
             Some(Negative(number))
         } else {
@@ -29,7 +26,7 @@ impl Negative {
         }
     }
 
-    /// The first such number behind the first word of a line.
+    /// The first negative number behind the first word of a statement.
     pub fn among(statement: Statement<'_>) -> Option<Negative> {
         for at in 1..4 {
             if let Some(negative) = Negative::of(statement.text(at)) {
@@ -40,7 +37,7 @@ impl Negative {
     }
 }
 
-/// The value of a register that stands for it, and how that is found.
+/// The value that a register holds for it, and how to compute that value.
 impl fmt::Display for Negative {
     fn fmt<W: fmt::Write>(&self, f: &mut fmt::Formatter<W>) -> fmt::Result {
         let Negative(number) = *self;

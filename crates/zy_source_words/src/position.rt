@@ -1,10 +1,10 @@
-//! A place in an input.
+//! A position in a source.
 
-/// A place of a text.
+/// A position in a source.
 #[derive(Clone, Copy)]
 pub struct Position {
     /// The number of the line, from 1.
     pub line: usize,
-    /// The number of the character in it, from 1.
+    /// The number of the character in the line, from 1.
     pub column: usize,
 }

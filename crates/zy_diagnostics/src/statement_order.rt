@@ -1,17 +1,17 @@
-//! What is wrong with the order of statements, and with how many there are.
+//! Advice on the order of statements and on their number.
 
-use crate::above::TextPart;
-use crate::head::is_head;
-use crate::text::TextAdvice;
+use crate::header_statement::begins_as_header;
+use crate::line_context::TextPart;
+use crate::text_advice::TextAdvice;
 use std::fmt;
 use zy_text::names::is;
 
 impl TextAdvice<'_> {
-    /// Says where a statement is allowed that is not allowed here.
+    /// Says where a misplaced statement is allowed.
     pub(crate) fn tell_misplaced<W: fmt::Write>(&self, f: &mut fmt::Formatter<W>) -> fmt::Result {
         let word = self.word();
         self.tell_reason(f)?;
-        if is_head(word) {
+        if begins_as_header(self.statement) {
             f.write_str("zephyr, cap, pages and rule come once, at the head of the text")
         } else if is(word, b"row") {
             f.write_str("rows come above the first program")
@@ -20,7 +20,7 @@ impl TextAdvice<'_> {
         }
     }
 
-    /// Says where a program is allowed, or what belongs in one.
+    /// Says where programs, or instructions and labels, are allowed.
     fn tell_place_of<W: fmt::Write>(&self, f: &mut fmt::Formatter<W>, word: &[u8]) -> fmt::Result {
         let (allowed, above) = if is(word, b"txn") {
             ("programs come above the first choice", "")
@@ -31,15 +31,15 @@ impl TextAdvice<'_> {
             )
         };
         f.write_str(allowed)?;
-        match self.above.part() {
+        match self.context.part() {
             TextPart::Choices(line) => write!(f, "{above}, which is line {line}"),
             _ => f.write_str(", below its line txn T"),
         }
     }
 
-    /// Says that a row needs a page too many.
+    /// Says that the rows need too many pages.
     pub(crate) fn tell_page_count<W: fmt::Write>(&self, f: &mut fmt::Formatter<W>) -> fmt::Result {
-        let cap = self.above.cap;
+        let cap = self.context.cap;
         let rows = cap.saturating_add(1) / 2;
         write!(
             f,
@@ -49,7 +49,7 @@ impl TextAdvice<'_> {
     }
 }
 
-/// Says that the key of a row is not above the last one.
+/// Says that the key of a row is not above that of the row before.
 pub(crate) fn tell_not_above<W: fmt::Write>(
     f: &mut fmt::Formatter<W>,
     key: u16,

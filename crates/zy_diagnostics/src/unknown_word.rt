@@ -1,49 +1,30 @@
-//! What was meant by a word that is not known.
+//! Advice on an unknown word.
 
-use crate::above::{Above, TextPart};
-use crate::form::{Form, Shape, is_plain_of_node};
-use crate::wording::tell_commas;
+use crate::instruction_words::{INSTRUCTIONS, is_instruction, show_instructions, show_near};
+use crate::line_context::{LineContext, TextPart};
+use crate::statement_form::{CLIENT_ACTIONS, NODE_ACTIONS, Shape, StatementForm};
+use crate::word_advice::tell_commas;
 use std::fmt;
-use zy_isa::Version;
-use zy_source_words::bytes::{Bytes, Quoted};
-use zy_source_words::line::Statement;
-use zy_source_words::meant::{Meant, tell_meant};
-use zy_source_words::negative::Negative;
+use zy_source_words::nearest_word::{is_one_of, show_nearest};
+use zy_source_words::{Bytes, NearestWord, Negative, Quoted, Statement};
 use zy_text::names::is;
 use zy_text::numbers::number_of;
 
-/// The words that a line below the header may begin with in both versions, in small letters.
-const STATEMENTS: [&'static str; 15] = [
-    "set", "read", "write", "insert", "add", "beq", "commit", "abort", "row", "txn", "end",
-    "zephyr", "cap", "pages", "rule",
-];
+/// The first words of the statements that are not instructions and not choices.
+const OTHERS: [&'static str; 7] = ["row", "txn", "end", "zephyr", "cap", "pages", "rule"];
 
-/// The words that an instruction may begin with in both versions.
-pub const INSTRUCTIONS: [&'static str; 8] = [
-    "set", "read", "write", "insert", "add", "beq", "commit", "abort",
-];
-
-/// The word that version 2 has beside these.
-const SUM: [&'static str; 1] = ["sum"];
-
-/// The actions of the client.
-const OF_CLIENT: [&'static str; 3] = ["start", "begin", "kill"];
-
-/// The actions of a node.
-const OF_NODE: [&'static str; 4] = ["run", "take", "push", "finish"];
-
-/// What was meant by the word at this place of a line, which is not known there.
+/// The unknown word of this number in a line.
 #[derive(Clone, Copy)]
-pub struct Unknown<'a> {
+pub struct UnknownWord<'a> {
     pub statement: Statement<'a>,
     pub at: usize,
-    pub above: Above,
+    pub context: LineContext,
 }
 
-impl<'a> Unknown<'a> {
+impl<'a> UnknownWord<'a> {
     /// Says what is wrong, and what to write.
     pub fn tell<W: fmt::Write>(&self, f: &mut fmt::Formatter<W>) -> fmt::Result {
-        match Form::of(self.above.version, self.statement) {
+        match StatementForm::of(self.context.version, self.statement) {
             Some(form) => self.tell_behind(f, form),
             None => self.tell_first(f),
         }
@@ -55,7 +36,11 @@ impl<'a> Unknown<'a> {
     }
 
     /// Says what may follow a known word.
-    fn tell_behind<W: fmt::Write>(&self, f: &mut fmt::Formatter<W>, form: Form<'a>) -> fmt::Result {
+    fn tell_behind<W: fmt::Write>(
+        &self,
+        f: &mut fmt::Formatter<W>,
+        form: StatementForm<'a>,
+    ) -> fmt::Result {
         match form.shape {
             Shape::OnTxn | Shape::Plain => write!(
                 f,
@@ -72,11 +57,11 @@ impl<'a> Unknown<'a> {
         }
     }
 
-    /// Says what to write in place of a word that is no register.
+    /// Says what to write in place of a word that is not a register.
     fn tell_no_register<W: fmt::Write>(
         &self,
         f: &mut fmt::Formatter<W>,
-        form: Form<'a>,
+        form: StatementForm<'a>,
     ) -> fmt::Result {
         let word = self.word();
         write!(
@@ -92,11 +77,11 @@ impl<'a> Unknown<'a> {
         }
     }
 
-    /// Says how a statement is written that has registers.
+    /// Says how to write a statement with registers.
     fn tell_registers<W: fmt::Write>(
         &self,
         f: &mut fmt::Formatter<W>,
-        form: Form<'a>,
+        form: StatementForm<'a>,
     ) -> fmt::Result {
         tell_commas(f, self.word())?;
         fmt::Display::fmt(&form.pattern(), f)?;
@@ -108,12 +93,18 @@ impl<'a> Unknown<'a> {
         }
     }
 
-    /// Says what may begin a line.
+    /// Says what a line may begin with.
     fn tell_first<W: fmt::Write>(&self, f: &mut fmt::Formatter<W>) -> fmt::Result {
         let word = self.word();
         write!(f, "the word {} is not known here: ", Quoted(word))?;
         if is(word, b"sub") {
             tell_subtraction(f, self.statement.last())
+        } else if is_instruction(word) {
+            write!(
+                f,
+                "{} is an instruction of version 2, which begins with zephyr 2",
+                Bytes(word)
+            )
         } else if is(word, b"li") {
             tell_load(f, self.statement)
         } else if is_action(word) {
@@ -123,24 +114,22 @@ impl<'a> Unknown<'a> {
         }
     }
 
-    /// Says what may begin a line in place of a word that is no action.
+    /// Says what a line may begin with in place of a word that is no action.
     fn tell_beginning<W: fmt::Write>(&self, f: &mut fmt::Formatter<W>, word: &[u8]) -> fmt::Result {
         if let Some(told) = advice_for(word, self.statement.text(1)) {
             return f.write_str(told);
         }
-        match MeantHere::of(self.above.version, word, &STATEMENTS) {
-            Some(meant) => fmt::Display::fmt(&meant, f),
-            None => tell_statements(f, self.above),
+        match NearestWord::of(word, &INSTRUCTIONS).or(NearestWord::of(word, &OTHERS)) {
+            Some(nearest) => show_near(f, self.context.version, nearest),
+            None => tell_statements(f, self.context),
         }
     }
 }
 
-/// What to say of a word with which a line begins, and the next one, where that is the same in each text.
+/// The advice on the first two words of a line that is the same in every text.
 fn advice_for(word: &[u8], next: &[u8]) -> Option<&'static str> {
     if begins_other_comment(word) {
         Some("a comment begins with ;")
-    } else if is(word, b"sum") {
-        Some("sum is an instruction of version 2, which begins with zephyr 2")
     } else if is(word, b"a") || is(word, b"b") || is(word, b"c") {
         Some("the actors are A, B and C, in capital letters")
     } else if is_action(next) {
@@ -150,22 +139,22 @@ fn advice_for(word: &[u8], next: &[u8]) -> Option<&'static str> {
     }
 }
 
-/// Says whose action a line begins with.
+/// Says which actor has the action that a line begins with.
 fn tell_actor<W: fmt::Write>(f: &mut fmt::Formatter<W>, action: &[u8]) -> fmt::Result {
     f.write_str("a choice begins with its actor, ")?;
-    if is_of_client(action) {
+    if is_one_of(action, &CLIENT_ACTIONS) {
         write!(f, "C {}", Bytes(action))
     } else {
         tell_nodes(f, Bytes(action))
     }
 }
 
-/// Says that an action is one of both nodes.
+/// Says how each node writes an action.
 fn tell_nodes<W: fmt::Write>(f: &mut fmt::Formatter<W>, action: Bytes<'_>) -> fmt::Result {
     write!(f, "A {action} or B {action}")
 }
 
-/// Says that an actor has no such action.
+/// Says that an actor lacks an action.
 fn tell_no_action<W: fmt::Write>(
     f: &mut fmt::Formatter<W>,
     actor: &[u8],
@@ -174,51 +163,15 @@ fn tell_no_action<W: fmt::Write>(
     write!(f, "{} has no action {}", Bytes(actor), Quoted(action))
 }
 
-/// What a word was meant to be in a text of a version.
-#[derive(Clone, Copy)]
-pub struct MeantHere {
-    meant: Meant<'static>,
-    /// Whether the version does not have it.
-    is_early: bool,
-}
-
-impl MeantHere {
-    /// Which of these words is meant, or else whether `sum` is.
-    pub fn of(version: Version, word: &[u8], known: &[&'static str]) -> Option<MeantHere> {
-        if let Some(meant) = Meant::of(word, known) {
-            return Some(MeantHere {
-                meant,
-                is_early: false,
-            });
-        }
-        let meant = Meant::of(word, &SUM)?;
-        Some(MeantHere {
-            meant,
-            is_early: version == Version::One,
-        })
-    }
-}
-
-impl fmt::Display for MeantHere {
-    fn fmt<W: fmt::Write>(&self, f: &mut fmt::Formatter<W>) -> fmt::Result {
-        fmt::Display::fmt(&self.meant, f)?;
-        if self.is_early {
-            f.write_str(", an instruction of version 2, which begins with zephyr 2")
-        } else {
-            Ok(())
-        }
-    }
-}
-
-/// Says how this number is taken away, or any other.
+/// Says how to subtract the number that a word spells, or else any number.
 pub fn tell_subtraction<W: fmt::Write>(f: &mut fmt::Formatter<W>, word: &[u8]) -> fmt::Result {
-    match number_of(word).and_then(Negative::less) {
+    match number_of(word).and_then(Negative::minus) {
         Some(negative) => write!(f, "set a register to {negative}, and add it"),
         None => f.write_str("to take N away, set a register to 2^32 - N, and add it"),
     }
 }
 
-/// Says how a number comes into a register.
+/// Says how to put a number into a register.
 fn tell_load<W: fmt::Write>(f: &mut fmt::Formatter<W>, statement: Statement<'_>) -> fmt::Result {
     f.write_str("set rA N puts a number into a register")?;
     match Negative::among(statement) {
@@ -237,73 +190,54 @@ pub fn begins_other_comment(word: &[u8]) -> bool {
 
 /// Whether a word is an action.
 fn is_action(word: &[u8]) -> bool {
-    is_of_client(word) || is_of_node(word)
+    is_one_of(word, &CLIENT_ACTIONS) || is_one_of(word, &NODE_ACTIONS)
 }
 
-/// Whether a word is an action of a node.
-fn is_of_node(word: &[u8]) -> bool {
-    is(word, b"run") || is_plain_of_node(word)
-}
-
-/// Whether a word is an action of the client.
-fn is_of_client(word: &[u8]) -> bool {
-    is(word, b"start") || is(word, b"begin") || is(word, b"kill")
-}
-
-/// Says that the client cannot do this, and what it can do instead.
+/// Says that the client lacks an action, and which ones it has.
 fn tell_action_of_client<W: fmt::Write>(f: &mut fmt::Formatter<W>, action: &[u8]) -> fmt::Result {
     tell_no_action(f, b"C", action)?;
     if is(action, b"run") {
         f.write_str(", which is a node's: A run T or B run T")
-    } else if is_plain_of_node(action) {
+    } else if is_one_of(action, &NODE_ACTIONS) {
         f.write_str(", which is a node's: ")?;
         tell_nodes(f, Bytes(action))
     } else {
         f.write_str(": ")?;
-        tell_meant(
+        show_nearest(
             f,
-            Meant::of(action, &OF_CLIENT),
+            NearestWord::of(action, &CLIENT_ACTIONS),
             "C start, C begin T or C kill T",
         )
     }
 }
 
-/// Says what a node can do in the place of this.
+/// Says which actions a node has in place of this one.
 fn tell_action_of_node<W: fmt::Write>(
     f: &mut fmt::Formatter<W>,
     action: &[u8],
-    form: Form<'_>,
+    form: StatementForm<'_>,
 ) -> fmt::Result {
-    if is_of_client(action) {
+    if is_one_of(action, &CLIENT_ACTIONS) {
         let behind = if is(action, b"start") { "" } else { " T" };
         return write!(f, ", which is the client's: C {}{behind}", Bytes(action));
     }
     f.write_str(": ")?;
-    match Meant::of(action, &OF_NODE) {
-        Some(meant) => fmt::Display::fmt(&meant, f),
+    match NearestWord::of(action, &NODE_ACTIONS) {
+        Some(nearest) => fmt::Display::fmt(&nearest, f),
         None => fmt::Display::fmt(&form.pattern(), f),
     }
 }
 
-/// Says with which words a line here may begin.
-fn tell_statements<W: fmt::Write>(f: &mut fmt::Formatter<W>, above: Above) -> fmt::Result {
-    match above.part() {
+/// Says which words a line here may begin with.
+fn tell_statements<W: fmt::Write>(f: &mut fmt::Formatter<W>, context: LineContext) -> fmt::Result {
+    match context.part() {
         TextPart::Choices(_) => f.write_str(
             "below the first choice come choices, of A, B and C, and end",
         ),
         TextPart::Program => {
-            tell_instructions(f, above)?;
+            show_instructions(f, context.version)?;
             f.write_str("; below the program come txn, the choices of A, B and C, and end")
         }
         _ => f.write_str("below the header come row, txn, the choices of A, B and C, and end"),
     }
-}
-
-/// Says the words of the instructions.
-pub fn tell_instructions<W: fmt::Write>(f: &mut fmt::Formatter<W>, above: Above) -> fmt::Result {
-    f.write_str("the instructions are set, read, write, insert, add, beq, commit")?;
-    f.write_str(match above.version {
-        Version::One => " and abort",
-        Version::Two => ", abort and sum",
-    })
 }

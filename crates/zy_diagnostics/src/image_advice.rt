@@ -1,11 +1,11 @@
-//! Why an image is rejected.
+//! Advice on a rejected image.
 
 use crate::command::{CommandName, ForText};
 use std::fmt;
 use zy_image::{ImageRefusal, LoadFault};
 use zy_isa::{Operation, PairOperation, Version};
 
-/// How many bytes show whether an input is a text.
+/// How many bytes decide whether an input is a text.
 const FRONT: usize = 16;
 
 /// Whether an input begins as an image does.
@@ -21,12 +21,12 @@ fn is_text(input: &[u8]) -> bool {
         && front.iter().all(|byte| may_be_of_text(*byte))
 }
 
-/// Whether a byte may be in a text: one that prints, a space, an end of a line, or one of a character of UTF-8.
+/// Whether a byte may be in a text: it prints, is white space, or is part of a longer character of UTF-8.
 fn may_be_of_text(byte: u8) -> bool {
     byte.is_ascii_graphic() || byte.is_ascii_whitespace() || byte >= 0x80
 }
 
-/// Why an image is rejected: where, what is wanted there and what is there, and what to do.
+/// Why a command rejects an image: where, what should be there, what is there, and what to do.
 #[derive(Clone, Copy)]
 pub struct ImageAdvice<'a> {
     command: CommandName,
@@ -44,7 +44,7 @@ impl<'a> ImageAdvice<'a> {
         }
     }
 
-    /// Whether the bytes that are not a word have the operation `sum`, which version 1 has not.
+    /// Whether the bytes at fault have the operation `sum`, which version 1 lacks.
     fn is_sum_too_early(&self) -> bool {
         let opcode = self.input.get(self.refusal.at).copied();
         matches!(self.refusal.fault, LoadFault::Word(_, _))

@@ -1,14 +1,14 @@
-//! The programs of a text.
+//! The programs of a scenario's text.
 
 use crate::bytes::Bytes;
 use crate::label::{label, operation_at, target};
 use crate::line::{SourceLine, Statement, is_line_feed};
-use crate::meant::is_alike;
+use crate::nearest_word::is_near;
 use std::fmt;
 use zy_isa::MAX_TXNS;
 use zy_text::names::{is, is_numeral};
 
-/// A program of a text.
+/// A program of a scenario's text.
 #[derive(Clone, Copy)]
 pub struct SourceProgram<'a> {
     number: usize,
@@ -21,7 +21,7 @@ pub struct SourceProgram<'a> {
 }
 
 impl<'a> SourceProgram<'a> {
-    /// The program of this number in some lines, with which an input begins.
+    /// The program of this number, from 0, in the first lines of a source.
     pub fn of(lines: &'a [u8], number: usize) -> Option<SourceProgram<'a>> {
         let mut count = 0usize;
         let mut start = 0usize;
@@ -54,18 +54,18 @@ impl<'a> SourceProgram<'a> {
         None
     }
 
-    /// The program whose name this word was meant to be.
-    pub fn meant(lines: &'a [u8], word: &[u8]) -> Option<SourceProgram<'a>> {
+    /// The first program with a name that is near to this word.
+    pub fn nearest(lines: &'a [u8], word: &[u8]) -> Option<SourceProgram<'a>> {
         for number in 0..MAX_TXNS {
             let program = SourceProgram::of(lines, number)?;
-            if !is_numeral(program.word) && is_alike(word, program.word) {
+            if !is_numeral(program.word) && is_near(word, program.word) {
                 return Some(program);
             }
         }
         None
     }
 
-    /// The number of a line in the program, by its place below `txn`.
+    /// The line number of the line at this index below `txn`.
     fn number_at(self, index: usize) -> usize {
         self.line.saturating_add(1).saturating_add(index)
     }
@@ -93,7 +93,7 @@ impl<'a> SourceProgram<'a> {
         None
     }
 
-    /// The number of the line that has this label.
+    /// The number of the line that defines this label.
     pub fn line_of_label(self, name: &[u8]) -> Option<usize> {
         for (index, bytes) in self.below.split(is_line_feed).enumerate() {
             if has_label(bytes, name) {
@@ -103,7 +103,7 @@ impl<'a> SourceProgram<'a> {
         None
     }
 
-    /// The first line that has a label for its target that is not there, and the label.
+    /// The first line with a target that no line defines, and that target.
     pub fn missing_label(self) -> Option<(SourceLine<'a>, &'a [u8])> {
         for (index, bytes) in self.below.split(is_line_feed).enumerate() {
             if let Some(name) = self.missing_in(bytes) {
@@ -114,7 +114,7 @@ impl<'a> SourceProgram<'a> {
         None
     }
 
-    /// The label that a line has for its target, if that is not there.
+    /// The target of a line, if no line defines it.
     fn missing_in(self, line: &'a [u8]) -> Option<&'a [u8]> {
         let name = target(Statement::of(line))?;
         match self.line_of_label(name) {
@@ -123,11 +123,11 @@ impl<'a> SourceProgram<'a> {
         }
     }
 
-    /// The label that a word was meant to be.
-    pub fn meant_label(self, word: &[u8]) -> Option<&'a [u8]> {
+    /// The first label that is near to a word.
+    pub fn nearest_label(self, word: &[u8]) -> Option<&'a [u8]> {
         for bytes in self.below.split(is_line_feed) {
             if let Some(name) = label(Statement::of(bytes)) {
-                if is_alike(word, name) {
+                if is_near(word, name) {
                     return Some(name);
                 }
             }
@@ -136,7 +136,7 @@ impl<'a> SourceProgram<'a> {
     }
 }
 
-/// Whether a line begins with this label.
+/// Whether a line defines this label.
 fn has_label(line: &[u8], name: &[u8]) -> bool {
     match label(Statement::of(line)) {
         Some(label) => is(label, name),

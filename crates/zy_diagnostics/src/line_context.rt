@@ -1,31 +1,32 @@
-//! What the lines above one say.
+//! What the lines above a line say.
 
 use zy_isa::Version;
-use zy_source_words::line::{Statement, is_line_feed};
+use zy_source_words::Statement;
+use zy_source_words::line::is_line_feed;
 use zy_text::names::is;
 use zy_text::numbers::number_of;
 
-/// Where in a text a line is.
+/// The part of a text that a line is in.
 #[derive(Clone, Copy)]
 pub enum TextPart {
-    /// In the header, of which this number of statements is above.
+    /// The header. This many of its statements are above the line.
     Header(usize),
-    /// Behind the header, above the first program.
+    /// Between the header and the first program.
     Rows,
-    /// In a program.
+    /// A program.
     Program,
-    /// Behind the first choice, which has this line.
+    /// Below the first choice, which is in this line.
     Choices(usize),
 }
 
-/// What the lines above one say, which were all accepted.
+/// What the lines above a line say. The reader accepted all of them.
 #[derive(Clone, Copy)]
-pub struct Above {
-    /// How many have words.
+pub struct LineContext {
+    /// How many of them have words.
     statements: usize,
     /// The version.
     pub version: Version,
-    /// The rows that a page has room for.
+    /// The most rows of a page.
     pub cap: u64,
     /// How many programs begin.
     pub programs: usize,
@@ -35,10 +36,10 @@ pub struct Above {
     pub end: Option<usize>,
 }
 
-impl Above {
-    /// What these lines say, with which an input begins.
-    pub fn of(lines: &[u8]) -> Above {
-        let mut above = Above {
+impl LineContext {
+    /// What these first lines of a text say.
+    pub fn of(lines: &[u8]) -> LineContext {
+        let mut context = LineContext {
             statements: 0,
             version: Version::One,
             cap: 2,
@@ -46,11 +47,10 @@ impl Above {
             choice: None,
             end: None,
         };
-        let lines = lines.split(is_line_feed);
-        for (index, line) in lines.enumerate() {
-            above.note(index.saturating_add(1), Statement::of(line));
+        for (index, line) in lines.split(is_line_feed).enumerate() {
+            context.note(index.saturating_add(1), Statement::of(line));
         }
-        above
+        context
     }
 
     /// Notes what a line says.
@@ -68,7 +68,7 @@ impl Above {
         }
     }
 
-    /// Notes what a line below the header says, which begins with this word.
+    /// Notes what a line below the header says that begins with this word.
     fn note_body(&mut self, number: usize, first: &[u8]) {
         if is(first, b"txn") {
             self.programs = self.programs.saturating_add(1);

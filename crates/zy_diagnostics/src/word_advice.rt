@@ -1,33 +1,32 @@
-//! What is wrong with the words of a line.
+//! Advice on names, instructions, numbers and the number of words.
 
-use crate::above::TextPart;
-use crate::form::{Form, Shape};
-use crate::head::Head;
-use crate::text::TextAdvice;
-use crate::unknown::{
-    INSTRUCTIONS, MeantHere, begins_other_comment, tell_instructions, tell_subtraction,
-};
+use crate::header_statement::HeaderStatement;
+use crate::instruction_words::{INSTRUCTIONS, is_instruction, show_instructions, show_near};
+use crate::line_context::TextPart;
+use crate::statement_form::{Shape, StatementForm};
+use crate::text_advice::TextAdvice;
+use crate::unknown_word::{begins_other_comment, tell_subtraction};
 use std::fmt;
-use zy_source_words::bytes::{Bytes, Quoted};
-use zy_source_words::negative::Negative;
-use zy_source_words::number::{is_number, number_behind};
+use zy_source_words::prefix::number_behind;
+use zy_source_words::{Bytes, NearestWord, Negative, Quoted};
 use zy_text::names::{is, is_name, label_of};
+use zy_text::numbers::number_of;
 
 /// The most bytes of a name.
 const MAX_NAME: usize = 32;
 
 impl TextAdvice<'_> {
-    /// Says what to write in place of a word that is no name.
+    /// Says what to write in place of a word that is not a name.
     pub(crate) fn tell_no_name<W: fmt::Write>(&self, f: &mut fmt::Formatter<W>) -> fmt::Result {
         match self.form() {
-            Some(form) if form.shape == Shape::Jump && self.culprit() > form.at => {
+            Some(form) if matches!(form.shape, Shape::Jump) && self.culprit() > form.at => {
                 tell_target(f, self.word())
             }
             _ => self.tell_bad_name(f, self.word()),
         }
     }
 
-    /// Says what a name is, and how long this one is if that is too long.
+    /// Says what a name is, and how long this one is if it is too long.
     fn tell_bad_name<W: fmt::Write>(&self, f: &mut fmt::Formatter<W>, word: &[u8]) -> fmt::Result {
         let length = label_of(word).unwrap_or(word).len();
         if length > MAX_NAME {
@@ -37,15 +36,19 @@ impl TextAdvice<'_> {
         }
     }
 
-    /// Says what is to follow a label.
+    /// Says what follows a label.
     pub(crate) fn tell_no_instruction<W: fmt::Write>(
         &self,
         f: &mut fmt::Formatter<W>,
     ) -> fmt::Result {
         let word = self.word();
         self.tell_reason(f)?;
-        if is(word, b"sum") {
-            f.write_str("sum is one of version 2, which begins with zephyr 2")
+        if is_instruction(word) {
+            write!(
+                f,
+                "{} is one of version 2, which begins with zephyr 2",
+                Bytes(word)
+            )
         } else if is(word, b"sub") {
             tell_subtraction(f, self.statement.last())
         } else {
@@ -53,20 +56,20 @@ impl TextAdvice<'_> {
         }
     }
 
-    /// Says which instruction a word was meant to be, or which there are.
+    /// Says which instruction is nearest to a word, or which ones there are.
     fn tell_instruction_for<W: fmt::Write>(
         &self,
         f: &mut fmt::Formatter<W>,
         word: &[u8],
     ) -> fmt::Result {
-        match MeantHere::of(self.above.version, word, &INSTRUCTIONS) {
-            Some(meant) => fmt::Display::fmt(&meant, f),
+        match NearestWord::of(word, &INSTRUCTIONS) {
+            Some(nearest) => show_near(f, self.context.version, nearest),
             None if label_of(word).is_some() => f.write_str("a line has one label"),
-            None => tell_instructions(f, self.above),
+            None => show_instructions(f, self.context.version),
         }
     }
 
-    /// Says how a statement is written that has too few words or too many.
+    /// Says how to write a statement that has too few words or too many.
     pub(crate) fn tell_count<W: fmt::Write>(&self, f: &mut fmt::Formatter<W>) -> fmt::Result {
         match self.form() {
             Some(_) if begins_other_comment(self.word()) => f.write_str("a comment begins with ;"),
@@ -82,7 +85,11 @@ impl TextAdvice<'_> {
     }
 
     /// Says what may follow a choice.
-    fn tell_times<W: fmt::Write>(&self, f: &mut fmt::Formatter<W>, form: Form<'_>) -> fmt::Result {
+    fn tell_times<W: fmt::Write>(
+        &self,
+        f: &mut fmt::Formatter<W>,
+        form: StatementForm<'_>,
+    ) -> fmt::Result {
         let word = self.word();
         if let Some(number) = number_behind(word, b"x") {
             write!(
@@ -99,19 +106,23 @@ impl TextAdvice<'_> {
         }
     }
 
-    /// Says how a statement is written that has no number where one is due, or one out of its range.
+    /// Says how to write a statement in which a word is not a number in its range.
     pub(crate) fn tell_number<W: fmt::Write>(&self, f: &mut fmt::Formatter<W>) -> fmt::Result {
-        let part = self.above.part();
+        let part = self.context.part();
         self.tell_reason(f)?;
         match (part, self.form()) {
-            (TextPart::Header(_), _) => f.write_str(Head::of(part).pattern),
+            (TextPart::Header(_), _) => f.write_str(HeaderStatement::of(part).pattern),
             (_, Some(form)) => self.tell_value(f, form),
             (_, None) => Ok(()),
         }
     }
 
-    /// Says how a statement is written in which a value is wrong.
-    fn tell_value<W: fmt::Write>(&self, f: &mut fmt::Formatter<W>, form: Form<'_>) -> fmt::Result {
+    /// Says how to write a statement with a wrong value.
+    fn tell_value<W: fmt::Write>(
+        &self,
+        f: &mut fmt::Formatter<W>,
+        form: StatementForm<'_>,
+    ) -> fmt::Result {
         fmt::Display::fmt(&form.pattern(), f)?;
         match Negative::of(self.word()) {
             Some(negative) if form.has_value_at(self.culprit()) => {
@@ -122,7 +133,7 @@ impl TextAdvice<'_> {
     }
 }
 
-/// Says that no comma is between words, where some bytes have one.
+/// Says that no comma separates words, if some bytes have one.
 pub fn tell_commas<W: fmt::Write>(f: &mut fmt::Formatter<W>, bytes: &[u8]) -> fmt::Result {
     if bytes.contains(&b',') {
         f.write_str("words have spaces between them, and no comma: ")
@@ -131,7 +142,7 @@ pub fn tell_commas<W: fmt::Write>(f: &mut fmt::Formatter<W>, bytes: &[u8]) -> fm
     }
 }
 
-/// Says what a target is, in the place of a word that is none.
+/// Says what a target is, and that this word is not one.
 fn tell_target<W: fmt::Write>(f: &mut fmt::Formatter<W>, word: &[u8]) -> fmt::Result {
     let (target, name) = target_for(word);
     write!(
@@ -142,9 +153,9 @@ fn tell_target<W: fmt::Write>(f: &mut fmt::Formatter<W>, word: &[u8]) -> fmt::Re
     )
 }
 
-/// What a target is that is written in the place of a word: what comes before its name, and the name.
+/// The target to write in place of a word: what a target is, and the name of this one.
 fn target_for(word: &[u8]) -> (&'static str, &[u8]) {
-    if is_number(word) {
+    if number_of(word).is_some() {
         return ("a label or @", word);
     }
     match label_of(word) {

@@ -1,29 +1,28 @@
-//! What is wrong with programs, their names and their labels.
+//! Advice on programs, their names and their labels.
 
-use crate::text::TextAdvice;
+use crate::text_advice::TextAdvice;
 use std::fmt;
 use zy_asm::Reason;
 use zy_isa::ProgramFault;
-use zy_source_words::bytes::Quoted;
 use zy_source_words::label::label;
-use zy_source_words::program::SourceProgram;
+use zy_source_words::{Quoted, SourceProgram};
 
 impl<'a> TextAdvice<'a> {
-    /// The last program above the line.
+    /// The last program that begins above the line.
     pub(crate) fn program(&self) -> Option<SourceProgram<'a>> {
-        SourceProgram::of(self.lines, self.above.programs.saturating_sub(1))
+        SourceProgram::of(self.lines, self.context.programs.saturating_sub(1))
     }
 
     /// Says which programs there are.
     pub(crate) fn tell_programs<W: fmt::Write>(&self, f: &mut fmt::Formatter<W>) -> fmt::Result {
-        match (self.above.programs, self.program()) {
+        match (self.context.programs, self.program()) {
             (0, _) => f.write_str("no program is above"),
             (1, Some(program)) => write!(f, "the only one is {program}"),
             (count, _) => write!(f, "the programs are 0 to {}", count.saturating_sub(1)),
         }
     }
 
-    /// Says that there is no transaction of a number.
+    /// Says that no transaction has this number.
     pub(crate) fn tell_no_transaction<W: fmt::Write>(
         &self,
         f: &mut fmt::Formatter<W>,
@@ -33,19 +32,19 @@ impl<'a> TextAdvice<'a> {
         self.tell_programs(f)
     }
 
-    /// Says that no program has a name.
+    /// Says that no program has the name.
     pub(crate) fn tell_no_program_of_name<W: fmt::Write>(
         &self,
         f: &mut fmt::Formatter<W>,
     ) -> fmt::Result {
         self.tell_reason(f)?;
-        match SourceProgram::meant(self.lines, self.word()) {
+        match SourceProgram::nearest(self.lines, self.word()) {
             Some(program) => write!(f, "did you mean {program}"),
             None => self.tell_programs(f),
         }
     }
 
-    /// Says which program has a name already.
+    /// Says which program already has the name.
     pub(crate) fn tell_name_twice<W: fmt::Write>(&self, f: &mut fmt::Formatter<W>) -> fmt::Result {
         match SourceProgram::named(self.lines, self.word()) {
             Some(program) => write!(f, "{}: {program}, in line {}", self.reason, program.line),
@@ -80,7 +79,7 @@ impl<'a> TextAdvice<'a> {
         }
     }
 
-    /// Says which line has a label already.
+    /// Says which line already defines the label.
     fn tell_label_twice<W: fmt::Write>(
         &self,
         f: &mut fmt::Formatter<W>,
@@ -97,7 +96,7 @@ impl<'a> TextAdvice<'a> {
         }
     }
 
-    /// Says why a program is none.
+    /// Says what a program lacks.
     fn tell_no_program<W: fmt::Write>(
         &self,
         f: &mut fmt::Formatter<W>,
@@ -119,20 +118,20 @@ impl<'a> TextAdvice<'a> {
     }
 }
 
-/// Says which label a program lacks, and which one was meant.
+/// Says which label a program lacks, and which one is near.
 fn tell_missing_label<W: fmt::Write>(
     f: &mut fmt::Formatter<W>,
     program: SourceProgram<'_>,
     name: &[u8],
 ) -> fmt::Result {
     write!(f, "the label {} is not defined in {program}", Quoted(name))?;
-    match program.meant_label(name) {
+    match program.nearest_label(name) {
         Some(label) => write!(f, ": did you mean {}", Quoted(label)),
         None => Ok(()),
     }
 }
 
-/// Says that the target of the instruction at this place of a program is outside it.
+/// Says that the target of the instruction of this number is outside its program.
 fn tell_stray_target<W: fmt::Write>(
     f: &mut fmt::Formatter<W>,
     program: SourceProgram<'_>,

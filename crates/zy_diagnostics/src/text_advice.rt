@@ -1,22 +1,21 @@
-//! Why a text is rejected.
+//! Advice on a rejected text.
 
-use crate::above::Above;
 use crate::command::{CommandName, ForImage};
 use crate::culprit::culprit;
-use crate::form::Form;
-use crate::image::is_image;
-use crate::order::tell_not_above;
-use crate::unknown::Unknown;
+use crate::image_advice::is_image;
+use crate::line_context::LineContext;
+use crate::statement_form::StatementForm;
+use crate::statement_order::tell_not_above;
+use crate::unknown_word::UnknownWord;
 use std::fmt;
 use std::str::from_utf8;
 use zy_asm::{LineFault, Reason};
 use zy_isa::ProgramFault;
 use zy_source_words::label::operation_at;
 use zy_source_words::line::{SourceLine, SourceWord, Statement, lines_above};
-use zy_source_words::place::MarkedWord;
-use zy_source_words::position::Position;
+use zy_source_words::{MarkedWord, Position};
 
-/// Why a text is rejected: what is wrong, what to write, and where.
+/// Why a command rejects a text: what is wrong, what to write, and where.
 #[derive(Clone, Copy)]
 pub struct TextAdvice<'a> {
     pub(crate) command: CommandName,
@@ -24,7 +23,7 @@ pub struct TextAdvice<'a> {
     pub(crate) reason: Reason,
     /// The lines above the rejected one.
     pub(crate) lines: &'a [u8],
-    pub(crate) above: Above,
+    pub(crate) context: LineContext,
     pub(crate) line: SourceLine<'a>,
     pub(crate) statement: Statement<'a>,
 }
@@ -39,17 +38,17 @@ impl<'a> TextAdvice<'a> {
             input,
             reason: refusal.reason,
             lines,
-            above: Above::of(lines),
+            context: LineContext::of(lines),
             line,
             statement: line.statement(),
         }
     }
 
-    /// Where the fault is: at the word that is at fault, or else where the rejected line begins.
+    /// The position of the word at fault, or else of the beginning of the rejected line.
     pub fn position(&self) -> Position {
         let number = self.line.number;
-        match self.place() {
-            Some(place) if !is_image(self.input) => place.position(number),
+        match self.marked_word() {
+            Some(marked) if !is_image(self.input) => marked.position(number),
             _ => Position {
                 line: number,
                 column: 1,
@@ -64,8 +63,8 @@ impl fmt::Display for TextAdvice<'_> {
             return fmt::Display::fmt(&ForImage(self.command), f);
         }
         self.tell(f)?;
-        match self.place() {
-            Some(place) => write!(f, " ({place})"),
+        match self.marked_word() {
+            Some(marked) => write!(f, " ({marked})"),
             None => Ok(()),
         }
     }
@@ -73,13 +72,13 @@ impl fmt::Display for TextAdvice<'_> {
 
 impl<'a> TextAdvice<'a> {
     /// The form of the line, if its first words are known.
-    pub(crate) fn form(&self) -> Option<Form<'a>> {
-        Form::of(self.above.version, self.statement)
+    pub(crate) fn form(&self) -> Option<StatementForm<'a>> {
+        StatementForm::of(self.context.version, self.statement)
     }
 
     /// The number of the word at fault in its line.
     pub(crate) fn culprit(&self) -> usize {
-        culprit(self.statement, self.above, self.reason)
+        culprit(self.statement, self.context, self.reason)
     }
 
     /// The word at fault.
@@ -112,17 +111,17 @@ impl<'a> TextAdvice<'a> {
         }
     }
 
-    /// Says what is wrong with a word that is not known.
+    /// Says what is wrong with an unknown word.
     fn tell_not_known<W: fmt::Write>(&self, f: &mut fmt::Formatter<W>) -> fmt::Result {
-        let unknown = Unknown {
+        let unknown = UnknownWord {
             statement: self.statement,
             at: self.culprit(),
-            above: self.above,
+            context: self.context,
         };
         unknown.tell(f)
     }
 
-    /// Says what is wrong with a line that is well formed by itself.
+    /// Says what is wrong with a line that is well formed but does not fit the others.
     fn tell_of_others<W: fmt::Write>(&self, f: &mut fmt::Formatter<W>) -> fmt::Result {
         match self.reason {
             Reason::NotAbove { key, last } => tell_not_above(f, key, last),
@@ -138,8 +137,8 @@ impl<'a> TextAdvice<'a> {
         }
     }
 
-    /// Where the fault is.
-    fn place(&self) -> Option<MarkedWord<'a>> {
+    /// The word to mark.
+    fn marked_word(&self) -> Option<MarkedWord<'a>> {
         if self.is_unended() {
             return MarkedWord::word(self.line, 0);
         }
@@ -166,7 +165,7 @@ impl<'a> TextAdvice<'a> {
         Some(MarkedWord::of(self.line.bytes, SourceWord { start, bytes }))
     }
 
-    /// The instruction for which the last program is none, or its `txn`.
+    /// The instruction at fault in the last program, or else its `txn`.
     fn place_in_program(&self, fault: ProgramFault) -> Option<MarkedWord<'a>> {
         let program = self.program()?;
         match fault {
@@ -180,7 +179,7 @@ impl<'a> TextAdvice<'a> {
     }
 }
 
-/// The target of the jump that a line has.
+/// The target of a line's jump.
 fn target_of(line: SourceLine<'_>) -> Option<MarkedWord<'_>> {
     MarkedWord::word_elsewhere(line, operation_at(line.statement()).saturating_add(3))
 }

@@ -1,9 +1,8 @@
-//! Why a line is no command of the debugger.
+//! Advice on a line that is not a command of the debugger.
 
 use std::fmt;
-use zy_source_words::bytes::{Bytes, Quoted};
-use zy_source_words::line::Statement;
-use zy_source_words::meant::{Meant, tell_meant};
+use zy_source_words::nearest_word::{is_one_of, show_nearest};
+use zy_source_words::{Bytes, NearestWord, Quoted, Statement};
 use zy_text::names::is;
 use zy_text::numbers::number_of;
 
@@ -13,7 +12,7 @@ const COMMANDS: [&'static str; 13] = [
     "links", "where",
 ];
 
-/// What `break` takes beside a page.
+/// The first words behind `break`.
 const STOPS: [&'static str; 3] = ["page", "mode", "abort"];
 
 /// What a command takes.
@@ -21,18 +20,18 @@ const STOPS: [&'static str; 3] = ["page", "mode", "abort"];
 enum Takes {
     /// Nothing.
     Lone,
-    /// A number, which is written as this letter.
+    /// A number, for which advice writes this letter.
     Number(&'static str),
-    /// A page, or what else stops.
+    /// What stops the run: a page, the mode or an abort.
     Break,
     /// A node.
     Node,
 }
 
 impl Takes {
-    /// What the command takes that begins with a word.
+    /// What the command with this first word takes.
     fn of(word: &[u8]) -> Option<Takes> {
-        if is_lone(word) {
+        if is_one_of(word, &["cont", "rcont", "links", "where"]) {
             Some(Takes::Lone)
         } else if is(word, b"break") {
             Some(Takes::Break)
@@ -44,14 +43,9 @@ impl Takes {
     }
 }
 
-/// Whether a command takes nothing.
-fn is_lone(word: &[u8]) -> bool {
-    is(word, b"cont") || is(word, b"rcont") || is(word, b"links") || is(word, b"where")
-}
-
 /// The letter for the number that a command takes.
 fn letter_of(word: &[u8]) -> Option<&'static str> {
-    if is(word, b"step") || is(word, b"back") || is(word, b"goto") {
+    if is_one_of(word, &["step", "back", "goto"]) {
         Some("N")
     } else if is(word, b"watch") {
         Some("K")
@@ -66,32 +60,32 @@ fn letter_of(word: &[u8]) -> Option<&'static str> {
     }
 }
 
-/// A line that is no command.
+/// A line that is not a command.
 #[derive(Clone, Copy)]
 pub struct BadCommand<'a> {
     line: Statement<'a>,
 }
 
 impl<'a> BadCommand<'a> {
-    /// This line, with its words.
+    /// This line.
     pub fn of(line: &'a [u8]) -> BadCommand<'a> {
         BadCommand {
             line: Statement::of(line),
         }
     }
 
-    /// Says what a command is that begins with this word, which is none.
+    /// Says that no command begins with the first word, and which ones there are.
     fn tell_unknown<W: fmt::Write>(&self, f: &mut fmt::Formatter<W>) -> fmt::Result {
         let word = self.line.text(0);
         write!(f, "there is no command {}: ", Quoted(word))?;
-        tell_meant(
+        show_nearest(
             f,
-            Meant::of(word, &COMMANDS),
+            NearestWord::of(word, &COMMANDS),
             "there are step, back, goto, cont, rcont, break, watch, delete, page, txn, node, links and where",
         )
     }
 
-    /// Says that a command takes a number, which is the word at this place and its last one.
+    /// Says that a command takes a number, as its word of this number and its last one.
     fn tell_number<W: fmt::Write>(
         &self,
         f: &mut fmt::Formatter<W>,
@@ -116,14 +110,14 @@ impl<'a> BadCommand<'a> {
         if is(word, b"mode") || is(word, b"abort") {
             return f.write_str("nothing comes behind break mode and break abort");
         }
-        match Meant::of(word, &STOPS) {
+        match NearestWord::of(word, &STOPS) {
             Some(meant) => write!(f, "break has no {}: {meant}", Quoted(word)),
             None => f.write_str("it is break page P, break mode or break abort"),
         }
     }
 }
 
-/// Says why a word is no number that a command takes.
+/// Says why a command does not take a word as its number.
 fn tell_bad_number<W: fmt::Write>(f: &mut fmt::Formatter<W>, word: &[u8]) -> fmt::Result {
     let why = if number_of(word).is_some() {
         "is above 4294967295"

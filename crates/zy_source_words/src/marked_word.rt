@@ -1,27 +1,27 @@
-//! Where in an input a fault is.
+//! A word of a line with marks around it, which show where a fault is.
 
 use crate::bytes::{show_byte, show_code};
 use crate::line::{SourceLine, SourceWord};
 use crate::position::Position;
 use std::fmt;
 
-/// How many bytes in front of a word, of the word, and behind it are shown.
+/// The most bytes that are shown of a word, and on each side of it.
 const MOST: usize = 40;
 
-/// A word of a line, shown among those beside it.
+/// A word of a line, shown between those on each side of it.
 #[derive(Clone, Copy)]
 pub struct MarkedWord<'a> {
-    /// The number of its line, where that is not the fault's.
+    /// The number of its line, if the fault is in another line.
     line: Option<usize>,
     before: &'a [u8],
     word: &'a [u8],
     after: &'a [u8],
-    /// Whether a `>` or `<` of the line is shown as `\xNN`, so that those are the marks that are there.
+    /// Whether a `>` or `<` of the line is shown as `\xNN`, so that the only ones shown are the marks.
     has_lone_marks: bool,
 }
 
 impl<'a> MarkedWord<'a> {
-    /// A word of these bytes.
+    /// A word of these bytes of a line.
     pub fn of(bytes: &'a [u8], word: SourceWord<'a>) -> MarkedWord<'a> {
         let (before, rest) = bytes.split_at(word.start.min(bytes.len()));
         let (word, after) = rest.split_at(word.bytes.len().min(rest.len()));
@@ -29,12 +29,12 @@ impl<'a> MarkedWord<'a> {
             line: None,
             before,
             word,
-            after: trimmed(after),
+            after: after.trim_ascii_end(),
             has_lone_marks: false,
         }
     }
 
-    /// This word, in a line of which `>` and `<` are words: no others are shown than the marks.
+    /// This word, in a line that has `>` and `<` among its words: the only ones shown as such are the marks.
     pub fn with_lone_marks(self) -> MarkedWord<'a> {
         MarkedWord {
             has_lone_marks: true,
@@ -42,21 +42,21 @@ impl<'a> MarkedWord<'a> {
         }
     }
 
-    /// The word of this number in a line, from 0; where the line has fewer, its first one.
+    /// The word of this number in a line, from 0; the first one if the line has fewer.
     pub fn word(line: SourceLine<'a>, number: usize) -> Option<MarkedWord<'a>> {
         let statement = line.statement();
         let word = statement.word(number).or(statement.word(0))?;
         Some(MarkedWord::of(statement.bytes, word))
     }
 
-    /// The word of this number in a line that is not the fault's, so that it is shown with the number of its line.
+    /// The word of this number in a line other than the fault's; it is shown with its line number.
     pub fn word_elsewhere(line: SourceLine<'a>, number: usize) -> Option<MarkedWord<'a>> {
         let mut place = MarkedWord::word(line, number)?;
         place.line = Some(line.number);
         Some(place)
     }
 
-    /// The line of the word, which is the fault's unless it is elsewhere, and the column.
+    /// The position of the word, where this is the line of the fault.
     pub fn position(self, line: usize) -> Position {
         Position {
             line: self.line.unwrap_or(line),
@@ -70,13 +70,8 @@ impl<'a> MarkedWord<'a> {
     }
 }
 
-/// The bytes without the spaces at their end.
-fn trimmed(bytes: &[u8]) -> &[u8] {
-    bytes.trim_ascii_end()
-}
-
-/// The column, from 1 and in characters, and the line with the word between `>` and `<`. What is cut off is shown as
-/// two dots, and a byte that does not print as `\xNN`.
+/// The column, from 1 and in characters, and the line with the word between `>` and `<`. Two dots stand for bytes that
+/// are cut off, and `\xNN` for a byte that does not print.
 impl fmt::Display for MarkedWord<'_> {
     fn fmt<W: fmt::Write>(&self, f: &mut fmt::Formatter<W>) -> fmt::Result {
         self.show_position(f)?;
@@ -87,23 +82,23 @@ impl fmt::Display for MarkedWord<'_> {
     }
 }
 
-/// Whether a byte marks the end of a word.
+/// Whether a byte looks like one of the marks.
 fn is_mark(byte: u8) -> bool {
     byte == b'<' || byte == b'>'
 }
 
-/// What is shown where some bytes are cut off.
+/// The dots for the bytes that are cut off, if any are.
 fn dots(bytes: &[u8]) -> &'static str {
     if bytes.len() > MOST { ".." } else { "" }
 }
 
-/// How many characters there are in some UTF-8.
+/// The number of characters in some UTF-8.
 fn characters(bytes: &[u8]) -> usize {
     bytes.iter().filter(|byte| **byte & 0xc0 != 0x80).count()
 }
 
 impl MarkedWord<'_> {
-    /// Shows the column, and the line that is not the fault's.
+    /// Shows the column, with the line number if the fault is in another line.
     fn show_position<W: fmt::Write>(self, f: &mut fmt::Formatter<W>) -> fmt::Result {
         let column = self.column();
         match self.line {
@@ -112,14 +107,14 @@ impl MarkedWord<'_> {
         }
     }
 
-    /// Shows the end of what comes before the word.
+    /// Shows the last bytes before the word.
     fn show_end<W: fmt::Write>(self, f: &mut fmt::Formatter<W>, bytes: &[u8]) -> fmt::Result {
         let cut = bytes.len().saturating_sub(MOST);
         f.write_str(dots(bytes))?;
         self.show(f, bytes.get(cut..).unwrap_or(&[]))
     }
 
-    /// Shows a mark, and the first bytes of the word or of what is behind it.
+    /// Shows a mark, and the first bytes of the word or of what follows it.
     fn show_front<W: fmt::Write>(
         self,
         f: &mut fmt::Formatter<W>,

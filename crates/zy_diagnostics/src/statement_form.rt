@@ -1,14 +1,20 @@
-//! The forms of statements.
+//! The forms of statements: which words a statement takes, and how to write it.
 
 use std::fmt;
-use zy_isa::{Operation, Version};
-use zy_source_words::bytes::Bytes;
+use zy_isa::{Operation, PairOperation, Version};
 use zy_source_words::label::operation_at;
-use zy_source_words::line::Statement;
+use zy_source_words::nearest_word::is_one_of;
+use zy_source_words::{Bytes, Statement};
 use zy_text::names::is;
 
-/// What follows the first word of a statement, or in a choice the second.
-#[derive(Clone, Copy, PartialEq, Eq)]
+/// The actions of the client.
+pub const CLIENT_ACTIONS: [&'static str; 3] = ["start", "begin", "kill"];
+
+/// The actions of a node.
+pub const NODE_ACTIONS: [&'static str; 4] = ["run", "take", "push", "finish"];
+
+/// What follows the first word of a statement, or the second word of a choice.
+#[derive(Clone, Copy)]
 pub enum Shape {
     /// A key and a value.
     Row,
@@ -16,8 +22,8 @@ pub enum Shape {
     Txn,
     /// A register and a number.
     Number,
-    /// Two registers.
-    Pair,
+    /// Two registers, on which this operation works.
+    Pair(PairOperation),
     /// Two registers and a target.
     Jump,
     /// Nothing.
@@ -26,29 +32,29 @@ pub enum Shape {
     Client,
     /// An action of a node.
     Node,
-    /// A transaction, and how often.
+    /// A transaction, and perhaps how often.
     OnTxn,
-    /// How often.
+    /// No transaction, and perhaps how often.
     Plain,
 }
 
-/// A statement below the header: what it takes, and how it is written.
+/// A statement below the header: which words it takes, and how to write it.
 #[derive(Clone, Copy)]
-pub struct Form<'a> {
+pub struct StatementForm<'a> {
     pub shape: Shape,
-    /// Which of the words of its line is its first one.
+    /// The number of its first word in its line: 1 behind a label, else 0.
     pub at: usize,
     first: &'a [u8],
     second: &'a [u8],
 }
 
-impl<'a> Form<'a> {
-    /// The form that the first words of a line ask for, if they are known in this version.
-    pub fn of(version: Version, statement: Statement<'a>) -> Option<Form<'a>> {
+impl<'a> StatementForm<'a> {
+    /// The form of a line, if this version knows its first words.
+    pub fn of(version: Version, statement: Statement<'a>) -> Option<StatementForm<'a>> {
         let at = operation_at(statement);
         let first = statement.text(at);
         let second = statement.text(at.saturating_add(1));
-        Some(Form {
+        Some(StatementForm {
             shape: shape_of(version, first, second)?,
             at,
             first,
@@ -56,12 +62,12 @@ impl<'a> Form<'a> {
         })
     }
 
-    /// How many words it has from its first one on, but for `x N`.
+    /// The number of its words, without a label and without `x N`.
     pub fn words(self) -> usize {
         match self.shape {
             Shape::Lone => 1,
             Shape::Txn | Shape::Client | Shape::Node | Shape::Plain => 2,
-            Shape::Row | Shape::Number | Shape::Pair | Shape::OnTxn => 3,
+            Shape::Row | Shape::Number | Shape::Pair(_) | Shape::OnTxn => 3,
             Shape::Jump => 4,
         }
     }
@@ -74,24 +80,24 @@ impl<'a> Form<'a> {
         )
     }
 
-    /// Whether the word at this place of its line is a value that need not be a key, or a register that has one.
+    /// Whether the word of this number in its line is a value other than a key, or a register that holds one.
     pub fn has_value_at(self, at: usize) -> bool {
         let is_second = at == self.at.saturating_add(2);
         match self.shape {
             Shape::Jump => true,
+            Shape::Pair(PairOperation::Add) => true,
             Shape::Number | Shape::Row => is_second,
-            Shape::Pair if is(self.first, b"add") => true,
-            Shape::Pair => is_second && (is(self.first, b"write") || is(self.first, b"insert")),
+            Shape::Pair(PairOperation::Write | PairOperation::Insert) => is_second,
             _ => false,
         }
     }
 
-    /// How it is written.
+    /// How to write it.
     pub fn pattern(self) -> Pattern<'a> {
         Pattern(self)
     }
 
-    /// Says this, and how it is written.
+    /// Says this, and how to write the statement.
     pub fn tell<W: fmt::Write>(self, f: &mut fmt::Formatter<W>, what: &str) -> fmt::Result {
         write!(f, "{what}: {}", self.pattern())
     }
@@ -102,7 +108,7 @@ fn shape_of(version: Version, first: &[u8], second: &[u8]) -> Option<Shape> {
     if let Some(operation) = Operation::named_in(version, first) {
         return Some(match operation {
             Operation::Number(_) => Shape::Number,
-            Operation::Pair(_) => Shape::Pair,
+            Operation::Pair(pair) => Shape::Pair(pair),
             Operation::Jump(_) => Shape::Jump,
             Operation::Lone(_) => Shape::Lone,
         });
@@ -122,7 +128,7 @@ fn shape_of(version: Version, first: &[u8], second: &[u8]) -> Option<Shape> {
     }
 }
 
-/// The shape of a choice of the client with this action.
+/// The shape of the client's choice with this action; `Client` if it has no such action.
 fn client_shape(action: &[u8]) -> Shape {
     if is(action, b"begin") || is(action, b"kill") {
         Shape::OnTxn
@@ -133,31 +139,26 @@ fn client_shape(action: &[u8]) -> Shape {
     }
 }
 
-/// The shape of a choice of a node with this action.
+/// The shape of a node's choice with this action; `Node` if it has no such action.
 fn node_shape(action: &[u8]) -> Shape {
     if is(action, b"run") {
         Shape::OnTxn
-    } else if is_plain_of_node(action) {
+    } else if is_one_of(action, &NODE_ACTIONS) {
         Shape::Plain
     } else {
         Shape::Node
     }
 }
 
-/// Whether a word is an action of a node with no transaction.
-pub fn is_plain_of_node(action: &[u8]) -> bool {
-    is(action, b"take") || is(action, b"push") || is(action, b"finish")
-}
-
-/// What it takes, and how it is written.
-impl fmt::Display for Form<'_> {
+/// What it takes, and how to write it.
+impl fmt::Display for StatementForm<'_> {
     fn fmt<W: fmt::Write>(&self, f: &mut fmt::Formatter<W>) -> fmt::Result {
         self.tell_takes(f)?;
         write!(f, ": {}", self.pattern())
     }
 }
 
-impl Form<'_> {
+impl StatementForm<'_> {
     /// Says what it takes.
     fn tell_takes<W: fmt::Write>(self, f: &mut fmt::Formatter<W>) -> fmt::Result {
         let (first, takes) = (Bytes(self.first), self.shape.takes());
@@ -172,13 +173,13 @@ impl Form<'_> {
 }
 
 impl Shape {
-    /// What follows the first word, or in a choice the second.
+    /// What follows the first word, or the second word of a choice.
     fn takes(self) -> &'static str {
         match self {
             Shape::Row => "a key and a value",
             Shape::Txn => "one number or name",
             Shape::Number => "a register and a number",
-            Shape::Pair => "two registers",
+            Shape::Pair(_) => "two registers",
             Shape::Jump => "two registers and a target",
             Shape::Client | Shape::Node => "an action",
             Shape::OnTxn => "one transaction",
@@ -188,9 +189,9 @@ impl Shape {
     }
 }
 
-/// How a statement is written.
+/// How to write a statement.
 #[derive(Clone, Copy)]
-pub struct Pattern<'a>(Form<'a>);
+pub struct Pattern<'a>(StatementForm<'a>);
 
 impl fmt::Display for Pattern<'_> {
     fn fmt<W: fmt::Write>(&self, f: &mut fmt::Formatter<W>) -> fmt::Result {
@@ -199,7 +200,7 @@ impl fmt::Display for Pattern<'_> {
             Shape::Row => f.write_str("row K V"),
             Shape::Txn => f.write_str("txn T"),
             Shape::Number => form.show(f, " rA N"),
-            Shape::Pair => form.show(f, " rA rB"),
+            Shape::Pair(_) => form.show(f, " rA rB"),
             Shape::Jump => form.show_jump(f),
             Shape::Lone => form.show(f, ""),
             Shape::Client => f.write_str("C start, C begin T or C kill T"),
@@ -210,19 +211,19 @@ impl fmt::Display for Pattern<'_> {
     }
 }
 
-impl Form<'_> {
-    /// Shows its first word and this behind it.
+impl StatementForm<'_> {
+    /// Shows its first word, and this behind it.
     fn show<W: fmt::Write>(self, f: &mut fmt::Formatter<W>, behind: &str) -> fmt::Result {
         write!(f, "{}{behind}", Bytes(self.first))
     }
 
-    /// Shows a jump, to a label or to a number.
+    /// Shows a jump to a label, and one to a number.
     fn show_jump<W: fmt::Write>(self, f: &mut fmt::Formatter<W>) -> fmt::Result {
         let first = Bytes(self.first);
         write!(f, "{first} rA rB LABEL, or {first} rA rB @N")
     }
 
-    /// Shows a choice, made once or several times, with this behind its action.
+    /// Shows a choice that is made once, and one that is made several times, with this behind the action.
     fn show_choice<W: fmt::Write>(self, f: &mut fmt::Formatter<W>, behind: &str) -> fmt::Result {
         let (actor, action) = (Bytes(self.first), Bytes(self.second));
         write!(

@@ -1,26 +1,26 @@
 //! The statements of the header.
 
-use crate::above::TextPart;
-use zy_source_words::line::Statement;
+use crate::line_context::TextPart;
+use zy_source_words::Statement;
 use zy_text::names::is;
 
 /// A statement of the header.
 #[derive(Clone, Copy)]
-pub struct Head {
-    /// The word that it begins with.
+pub struct HeaderStatement {
+    /// Its first word.
     pub word: &'static str,
     /// Which statement of the text it is.
     pub ordinal: &'static str,
-    /// How it is written.
+    /// How to write it.
     pub pattern: &'static str,
     /// What follows its first word.
     pub takes: &'static str,
-    /// What its second word chooses, where that is one of two.
+    /// What its second word chooses, if that is one of two words.
     pub choice: Option<&'static str>,
 }
 
 /// The version of the text.
-const VERSION: Head = Head {
+const VERSION: HeaderStatement = HeaderStatement {
     word: "zephyr",
     ordinal: "first",
     pattern: "zephyr 1 or zephyr 2",
@@ -29,7 +29,7 @@ const VERSION: Head = Head {
 };
 
 /// The most rows of a page.
-const CAP: Head = Head {
+const CAP: HeaderStatement = HeaderStatement {
     word: "cap",
     ordinal: "second",
     pattern: "cap N",
@@ -38,7 +38,7 @@ const CAP: Head = Head {
 };
 
 /// The most pages.
-const PAGES: Head = Head {
+const PAGES: HeaderStatement = HeaderStatement {
     word: "pages",
     ordinal: "third",
     pattern: "pages N",
@@ -47,7 +47,7 @@ const PAGES: Head = Head {
 };
 
 /// The rule for locked pages.
-const RULE: Head = Head {
+const RULE: HeaderStatement = HeaderStatement {
     word: "rule",
     ordinal: "fourth",
     pattern: "rule held or rule loose",
@@ -55,9 +55,9 @@ const RULE: Head = Head {
     choice: Some("rule"),
 };
 
-impl Head {
-    /// The one that is due in a part of the text; the last one below the header.
-    pub fn of(part: TextPart) -> Head {
+impl HeaderStatement {
+    /// The next one in a part of the text; the last one below the header.
+    pub fn of(part: TextPart) -> HeaderStatement {
         match part {
             TextPart::Header(0) => VERSION,
             TextPart::Header(1) => CAP,
@@ -72,7 +72,7 @@ impl Head {
     }
 }
 
-/// Whether a statement of the header begins with this word.
-pub fn is_head(word: &[u8]) -> bool {
-    is(word, b"zephyr") || is(word, b"cap") || is(word, b"pages") || is(word, b"rule")
+/// Whether a line begins as a statement of the header does.
+pub fn begins_as_header(line: Statement<'_>) -> bool {
+    VERSION.begins(line) || CAP.begins(line) || PAGES.begins(line) || RULE.begins(line)
 }
