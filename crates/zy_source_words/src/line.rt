@@ -1,5 +1,6 @@
 //! The lines of a source, and the words of a line.
 
+use memchr::memchr;
 use zy_text::line::is_space;
 use zy_text::names::is;
 
@@ -58,10 +59,8 @@ pub fn whole_line(source: &[u8], number: usize) -> &[u8] {
 
 /// The first line of a text with its line feed, and the rest.
 fn first_line(text: &[u8]) -> (&[u8], &[u8]) {
-    match text.iter().position(is_line_feed) {
-        Some(end) => text.split_at(end + 1),
-        None => (text, &[]),
-    }
+    let end = memchr(b'\n', text).map_or(text.len(), |end| end.saturating_add(1));
+    text.split_at(end.min(text.len()))
 }
 
 /// A word of a line.
