@@ -49,7 +49,7 @@ fn sought_of(
     })
 }
 
-/// Reports on standard error why a goal was not read, and gives the exit status.
+/// Reports on standard error why a goal was not read, and returns the exit status.
 fn no_goal(
     rt: &impl Eprint,
     request: SearchRequest<'_>,
@@ -74,7 +74,7 @@ pub enum AnswerKind {
     Positions,
 }
 
-/// Reads a goal, answers what is asked, and gives the exit status. Where the goal is rejected, nothing is read, but for the
+/// Reads a goal, answers what is asked, and returns the exit status. Where the goal is rejected, nothing is read, but for the
 /// names of transactions, which the scenario has.
 pub fn answer<R: Eprint + AllocGlobal + Clock + Threads + Sync, G: Read, W: Write>(
     rt: &R,
@@ -93,7 +93,7 @@ pub fn answer<R: Eprint + AllocGlobal + Clock + Threads + Sync, G: Read, W: Writ
     answer_read(rt, kind, request, input.as_slice(), output)
 }
 
-/// Answers what is asked of an input that was read, and gives the exit status.
+/// Answers what is asked of an input that was read, and returns the exit status.
 fn answer_read<R: Eprint + AllocGlobal + Clock + Threads + Sync, W: Write>(
     rt: &R,
     kind: AnswerKind,
@@ -109,7 +109,7 @@ fn answer_read<R: Eprint + AllocGlobal + Clock + Threads + Sync, W: Write>(
     status
 }
 
-/// Answers what is asked of a scenario, and gives the exit status.
+/// Answers what is asked of a scenario, and returns the exit status.
 fn answer_accepted<R: Eprint + AllocGlobal + Clock + Threads + Sync, W: Write>(
     rt: &R,
     kind: AnswerKind,
@@ -145,7 +145,7 @@ fn sought_in(
     Ok(sought)
 }
 
-/// The names of the transactions of a scenario; an image has none.
+/// The names of a scenario's transactions; an image has none.
 fn names_in<'a>(alloc: Global, input: &AcceptedInput<'a>) -> Result<Vec<&'a [u8]>, AllocError> {
     match input.format {
         Format::Text => names_of(alloc, input.bytes),
@@ -162,7 +162,7 @@ fn lacking(options: SearchOptions, scenario: &Scenario) -> Option<Count> {
     None
 }
 
-/// Searches the schedules of a scenario, if it has the steps that are to be taken, and gives the exit status.
+/// Searches the schedules of a scenario, if it has the steps that are to be taken, and returns the exit status.
 fn search<R: Eprint + AllocGlobal + Clock + Threads + Sync, W: Write>(
     rt: &R,
     request: SearchRequest<'_>,
@@ -190,13 +190,13 @@ fn search<R: Eprint + AllocGlobal + Clock + Threads + Sync, W: Write>(
     }
 }
 
-/// Reports on standard error that a scenario has no more choices than these, and gives the exit status.
+/// Reports on standard error that a scenario has no more choices than these, and returns the exit status.
 fn tell_lacking(rt: &impl Eprint, count: Count) -> u8 {
     let _ = eprintln!(rt; "zy_bench: --from: the scenario has {count}");
     COMMAND_LINE
 }
 
-/// Searches the schedules behind the steps that a machine has taken, and gives the exit status. It says how far it is where
+/// Searches the schedules behind the steps that a machine has taken, and returns the exit status. It says how far it is where
 /// standard error is a terminal.
 fn search_from<R: Eprint + AllocGlobal + Clock + Threads + Sync, W: Write>(
     rt: &R,
@@ -232,7 +232,7 @@ fn search_from<R: Eprint + AllocGlobal + Clock + Threads + Sync, W: Write>(
     told
 }
 
-/// Ends the output of a search from a machine, reports on standard error what came of it, and gives the exit status.
+/// Ends the output of a search from a machine, reports on standard error what came of it, and returns the exit status.
 /// `is_of_waits` says that its goal has `stuck` or `deadlock`.
 fn tell_answer<R: Eprint + AllocGlobal, W: Write>(
     rt: &R,
@@ -274,7 +274,7 @@ fn comment_found<R: Eprint + AllocGlobal>(
     }
 }
 
-/// Writes the positions of a scenario's run at which its state shows what is looked for, and gives the exit status.
+/// Writes the positions of a scenario's run at which its state shows what is looked for, and returns the exit status.
 fn find<R: AllocGlobal, W: Write>(
     rt: &R,
     sought: Sought,
@@ -305,7 +305,7 @@ fn warn_of(rt: &impl Eprint, word: &str, named: usize, count: usize) {
     }
 }
 
-/// How many of something a scenario has, and so which numbers they have.
+/// How many transactions or pages a scenario has, and so which numbers are valid.
 #[derive(Clone, Copy)]
 struct Has(usize);
 

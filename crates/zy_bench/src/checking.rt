@@ -14,10 +14,10 @@ use zy_report::origin::Origin;
 use zy_source_words::line::whole_line;
 use zy_text::cut::cut_len;
 
-/// How a listing ends whose rows are not those of the commit order.
+/// The end of a listing whose rows differ from those of the commit order.
 const DIFFERING_END: &'static [u8] = b"serial differs\nend\n";
 
-/// Checks the listing that is given, shows the line where it first differs, and gives the exit status.
+/// Checks the given listing, shows the first line that differs, and returns the exit status.
 pub fn check<R: Eprint + AllocGlobal, G: Read, W: Write>(
     rt: &R,
     file: Option<&str>,
@@ -34,7 +34,7 @@ pub fn check<R: Eprint + AllocGlobal, G: Read, W: Write>(
     status
 }
 
-/// Ends a check of an input, says what there is to say of it, and gives the exit status.
+/// Finishes a check: reports what it found, and returns the exit status.
 fn tell_checked<R: Eprint + AllocGlobal, W: Write>(
     rt: &R,
     file: Option<&str>,

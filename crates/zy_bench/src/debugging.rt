@@ -11,7 +11,7 @@ use zy_engine::debugging::{MAX_EVERY, MAX_RING, debug_bytes};
 use zy_io::CountingReader;
 use zy_report::bad_commands::BadCommands;
 
-/// Answers the commands that are given below a scenario, and gives the exit status.
+/// Answers the commands below a scenario, and returns the exit status.
 pub fn debug<R: Eprint + AllocGlobal, F: Read + Drop, S: Read, W: Write>(
     rt: &R,
     checkpoints: Checkpoints,

@@ -8,11 +8,11 @@ use zy_engine::ending::end_bytes;
 use zy_engine::{BenchFault, Ending, Format, Wording};
 use zy_io::CountingReader;
 
-/// What is said where a scenario has no room for the choices that end its migration.
+/// The message if a scenario has no room for the choices that end its migration.
 const NO_ROOM: &'static str =
     "with the choices that end its migration the scenario would have more than 4096: leave out some of its own";
 
-/// Writes the scenario that is given with choices behind its own that end its migration, and gives the exit status.
+/// Writes the given scenario with further choices that end its migration, and returns the exit status.
 pub fn end<R: Eprint + AllocGlobal, G: Read, W: Write>(
     rt: &R,
     format: Format,

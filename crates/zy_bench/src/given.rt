@@ -11,7 +11,7 @@ use zy_report::failure::Failure;
 /// A file, standard input, or a file and below it standard input.
 #[derive(Drop)]
 pub struct Given<F, S> {
-    /// The file; none where there is none, and once it has ended above standard input.
+    /// The file; none if there is none, and none after its end if standard input follows.
     file: Option<F>,
     /// Standard input; none where a file alone is read.
     standard: Option<S>,
@@ -22,7 +22,7 @@ pub struct Given<F, S> {
 }
 
 impl<F: Drop, S> Given<F, S> {
-    /// A file first, where there is one, and then standard input, where that is read.
+    /// A file, if there is one, followed by standard input, if that is read.
     pub fn new(file: Option<F>, standard: Option<S>) -> Given<F, S> {
         Given {
             file,
@@ -44,7 +44,7 @@ impl<F: Drop, S> Given<F, S> {
 }
 
 impl<F: Read + Drop, S: Read> Given<F, S> {
-    /// Reads the next bytes. Where the file ends above standard input, a line feed ends it.
+    /// Reads the next bytes. If standard input follows the file, a line feed ends the file.
     fn next(&mut self, buffer: &mut [u8]) -> io::Result<usize>
         ensures bound { ReadsAtMost result buffer.new }
         ensures bytes { ReadConsumes (left_of F.remaining S.remaining self.old.file self.old.standard)

@@ -22,7 +22,7 @@ pub struct Keeper<'a> {
     pub wording: Wording,
 }
 
-/// The choices of the furthest order that a search came to, where it found none of all lines.
+/// The choices of the furthest order that a search reached, if it found no order of all lines.
 fn furthest_of(answer: &OrderAnswer) -> Option<&[Choice]> {
     match answer {
         OrderAnswer::Found(_) => None,
@@ -33,7 +33,7 @@ fn furthest_of(answer: &OrderAnswer) -> Option<&[Choice]> {
 
 impl Keeper<'_> {
     /// Writes the scenario of logs, whose own text is at hand, with the choices of the furthest order behind its own, where there
-    /// is no order of all lines. Why that is not written it says on standard error, and gives the exit status.
+    /// is no order of all lines. Why that is not written it says on standard error, and returns the exit status.
     pub fn keep<R: Eprint + Files + AllocGlobal>(
         self,
         rt: &R,

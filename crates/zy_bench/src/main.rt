@@ -40,13 +40,13 @@ use zy_report::failure::Failure;
 use zy_report::fault_message::{FaultMessage, InputRead};
 use zy_report::origin::Origin;
 
-/// Reports a fault on standard error, and gives the exit status.
+/// Reports a fault on standard error, and returns the exit status.
 fn tell(rt: &impl Eprint, fault: BenchFault) -> u8 {
     let _ = eprintln!(rt; "zy_bench: {fault}");
     fault.status()
 }
 
-/// Reports on standard error why the words could not be read, and gives the exit status.
+/// Reports on standard error why the words could not be read, and returns the exit status.
 fn no_words(rt: &impl Eprint, error: &io::Error) -> u8 {
     if error.kind() == io::ErrorKind::OutOfMemory {
         return tell(rt, BenchFault::Memory);
@@ -55,7 +55,7 @@ fn no_words(rt: &impl Eprint, error: &io::Error) -> u8 {
     COMMAND_LINE
 }
 
-/// Prints the help, the version, or what is wrong with the command line, and gives the exit status.
+/// Prints the help, the version, or what is wrong with the command line, and returns the exit status.
 fn say(rt: &(impl Print + Eprint), said: &clap::Error) -> u8 {
     let printed = said.print(rt);
     if said.use_stderr() {
@@ -77,7 +77,7 @@ fn unprinted(error: &io::Error) -> BenchFault {
     }
 }
 
-/// What a request is given to read: its file, else standard input; for `debug` standard input is below the file.
+/// What a request reads: its file, otherwise standard input; `debug` reads standard input after its file.
 fn open<R: Input + Files>(
     rt: &R,
     request: Request<'_>,
@@ -95,14 +95,14 @@ fn open<R: Input + Files>(
     }
 }
 
-/// Reports on standard error why a file could not be opened, and gives the exit status.
+/// Reports on standard error why a file could not be opened, and returns the exit status.
 fn unopened(rt: &impl Eprint, file: Option<&str>, failure: Failure) -> u8 {
     let origin = Origin::of(file);
     let _ = eprintln!(rt; "{origin}: Read: {failure}");
     BenchFault::Read.status()
 }
 
-/// Carries a request out, and gives the exit status.
+/// Carries a request out, and returns the exit status.
 fn carry_out<R: Print + Eprint + Input + Files + AllocGlobal + Clock + Threads + Wait + Sync>(
     rt: &R,
     request: Request<'_>,
@@ -117,7 +117,7 @@ fn carry_out<R: Print + Eprint + Input + Files + AllocGlobal + Clock + Threads +
     status
 }
 
-/// Opens what a request reads, carries it out, and gives the exit status.
+/// Opens what a request reads, carries it out, and returns the exit status.
 fn write_answer<R: Eprint + Input + Files + AllocGlobal + Clock + Threads + Wait + Sync, W: Write>(
     rt: &R,
     request: Request<'_>,
@@ -136,7 +136,7 @@ fn write_answer<R: Eprint + Input + Files + AllocGlobal + Clock + Threads + Wait
     }
 }
 
-/// Carries a request out on what it is given to read, and gives the exit status.
+/// Carries a request out on what it is given to read, and returns the exit status.
 fn answer_given<
     R: Eprint + Files + AllocGlobal + Clock + Threads + Wait + Sync,
     F: Read + Drop,
@@ -161,7 +161,7 @@ fn answer_given<
     status
 }
 
-/// Performs the task of a request, and gives the exit status.
+/// Performs the task of a request, and returns the exit status.
 fn perform<
     R: Eprint + Files + AllocGlobal + Clock + Threads + Wait + Sync,
     F: Read + Drop,
@@ -214,7 +214,7 @@ fn reading_of<'a, F: Drop, S>(
     }
 }
 
-/// Reports a fault of an input on standard error, and what to do about it, and gives the exit status.
+/// Reports a fault of an input on standard error, and what to do about it, and returns the exit status.
 fn advise(rt: &impl Eprint, reading: InputRead<'_>, fault: BenchFault) -> u8 {
     let message = FaultMessage::of(reading, fault);
     let _ = eprintln!(rt; "{message}");
@@ -246,7 +246,7 @@ fn status<'a, R: Print + Eprint + Input + Files + AllocGlobal + Clock + Threads 
     }
 }
 
-/// Carries out what was asked for, and gives the exit status.
+/// Carries out the request, and returns the exit status.
 fn obey<R: Print + Eprint + Input + Files + AllocGlobal + Clock + Threads + Wait + Sync>(
     rt: &R,
     matches: &ArgMatches<'_>,
@@ -258,7 +258,7 @@ fn obey<R: Print + Eprint + Input + Files + AllocGlobal + Clock + Threads + Wait
     }
 }
 
-/// Prints what there is in place of matches, and a hint, and gives the exit status.
+/// Prints what there is in place of matches, and a hint, and returns the exit status.
 fn refuse<'a>(rt: &(impl Print + Eprint), said: &clap::Error, words: &'a [String]) -> u8 {
     if said.kind() == ErrorKind::OutOfMemory {
         return tell(rt, BenchFault::Memory);

@@ -32,7 +32,7 @@ pub struct OrderCaller<'a> {
     pub is_terminal: bool,
 }
 
-/// Looks for an order of the logs that are given below a scenario, and gives the exit status. It says how far it is where standard
+/// Looks for an order of the logs below a scenario, and returns the exit status. It says how far it is where standard
 /// error is a terminal.
 pub fn order<R: Eprint + Files + AllocGlobal + Clock, G: Read, W: Write>(
     rt: &R,
@@ -66,7 +66,7 @@ pub fn order<R: Eprint + Files + AllocGlobal + Clock, G: Read, W: Write>(
     }
 }
 
-/// Ends the output of a search for an order, reports what came of it, and gives the exit status.
+/// Ends the output of a search for an order, reports what came of it, and returns the exit status.
 fn tell_ordered<R: Eprint + Files + AllocGlobal, W: Write>(
     rt: &R,
     request: OrderRequest<'_>,
@@ -83,7 +83,7 @@ fn tell_ordered<R: Eprint + Files + AllocGlobal, W: Write>(
     Ok(kept(rt, request, input, ordered).unwrap_or(status))
 }
 
-/// Says on standard error why a line of an input is none of a log, and gives the exit status; another fault is given back.
+/// Says on standard error why a line of an input is not a line of a log, and returns the exit status; it returns any other fault.
 fn refuse<R: Eprint + AllocGlobal>(
     rt: &R,
     logs: LogFormat,
@@ -104,7 +104,7 @@ fn tell<D: fmt::Display + Drop>(rt: &impl Eprint, said: D) {
     let _ = eprintln!(rt; "{said}");
 }
 
-/// Says on standard error why a line of an input, or the line of a log that it tells, is none of a log.
+/// Says on standard error why a line of an input, or the line that it tells, is not a line of a log.
 fn tell_refused<R: Eprint + AllocGlobal>(
     rt: &R,
     logs: LogFormat,
@@ -123,7 +123,7 @@ fn tell_refused<R: Eprint + AllocGlobal>(
     Ok(())
 }
 
-/// Keeps the furthest order, if a file is named for it, and gives the exit status where that fails.
+/// Keeps the furthest order, if a file is named for it, and returns the exit status where that fails.
 fn kept<R: Eprint + Files + AllocGlobal>(
     rt: &R,
     request: OrderRequest<'_>,
@@ -140,7 +140,7 @@ fn kept<R: Eprint + Files + AllocGlobal>(
     keeper.keep(rt, text, ordered).err()
 }
 
-/// Reports on standard error what came of a search for an order, and gives the exit status.
+/// Reports on standard error what came of a search for an order, and returns the exit status.
 fn sum_up<R: Eprint + AllocGlobal>(
     rt: &R,
     request: OrderRequest<'_>,
@@ -161,7 +161,7 @@ fn sum_up<R: Eprint + AllocGlobal>(
     Ok(status)
 }
 
-/// Reports that an order was found, which makes this number of choices, and gives the exit status.
+/// Reports that an order was found, which makes this number of choices, and returns the exit status.
 fn found(rt: &impl Eprint, report: &OrderReport, choices: usize) -> u8 {
     let states = Count::of(report.states, "state");
     let steps = Steps::of(report.taken, choices);

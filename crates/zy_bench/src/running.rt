@@ -16,7 +16,7 @@ use zy_report::explained::explain;
 use zy_report::no_effect::NoEffect;
 use zy_threads::FreeGate;
 
-/// Ends a command that has written: passes on what is kept back, and gives the exit status.
+/// Ends a command that has written: passes on what is kept back, and returns the exit status.
 fn close<W: Write>(output: &mut Output<W>) -> Result<u8, BenchFault>
     requires { output.old.sink.1 < u64.MAX }
 {
@@ -37,7 +37,7 @@ fn close_run<R: Eprint + AllocGlobal, W: Write>(
     Ok(DONE)
 }
 
-/// Runs an engine over what is given, whose bytes it leaves in `input`, and gives the exit status.
+/// Runs an engine over what is given, whose bytes it leaves in `input`, and returns the exit status.
 pub fn convert<R: Eprint + AllocGlobal + Threads + Wait + Sync, G: Read, W: Write>(
     rt: &R,
     conversion: Conversion,
@@ -63,7 +63,7 @@ pub fn convert<R: Eprint + AllocGlobal + Threads + Wait + Sync, G: Read, W: Writ
     }
 }
 
-/// Makes a run, shows it, and gives the exit status.
+/// Makes a run, shows it, and returns the exit status.
 fn run<R: Eprint + AllocGlobal + Threads + Wait + Sync, S: Source, W: Write>(
     rt: &R,
     shown: Shown,

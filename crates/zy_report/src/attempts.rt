@@ -37,7 +37,7 @@ impl Attempts {
         *count = count.wrapping_add(1);
     }
 
-    /// Why nothing came of any of them, if nothing did: the transaction has come to `status` and is at `node`.
+    /// Why none of its steps did anything, if none did. The transaction ends with `status` at `node`.
     pub fn cause(self, status: Status, node: Node) -> Option<Cause> {
         match status {
             _ if self.others > 0 => None,
@@ -57,7 +57,7 @@ impl Attempts {
     }
 }
 
-/// The transactions that have made no instruction and have not ended, a bit for each: of each other one something came.
+/// A bit for each transaction that has run no instruction and has not ended. A step of every other one did something.
 #[derive(Clone, Copy)]
 pub struct Doubtful {
     bits: u64,
@@ -93,7 +93,7 @@ impl Doubtful {
     }
 }
 
-/// What came of the steps and kills of each doubtful transaction, by its number.
+/// The outcomes of the steps and kills of each transaction in doubt, indexed by its number.
 #[derive(Clone, Copy)]
 pub struct AttemptsByTxn([Attempts; 64]);
 
@@ -143,7 +143,7 @@ impl AttemptsByTxn {
         }
     }
 
-    /// Whether a transaction was run at the node where it is not, and nothing came of any step of it.
+    /// Whether a transaction was run at the node where it is not, and none of its steps did anything.
     fn has_elsewhere(&self) -> bool {
         self.0
             .iter()

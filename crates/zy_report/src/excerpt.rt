@@ -16,9 +16,9 @@ const BEFORE: usize = 60;
 pub struct Differing<'a> {
     /// Its number, from 1.
     pub number: usize,
-    /// The line of the input, with its end; empty where the input ends above it.
+    /// The line of the input, with its line feed; empty if the input ends above it.
     pub is: &'a [u8],
-    /// The line of the listing; empty where the listing ends above it.
+    /// The line of the listing; empty if the listing ends above it.
     pub due: &'a [u8],
     /// Whether the input has nothing below its scenario.
     pub is_scenario: bool,
@@ -35,7 +35,7 @@ impl Differing<'_> {
         is(self.is, b"trace\n") && is(self.due, b"steps\n")
     }
 
-    /// Whether the line has a carriage return too many, and nothing else is wrong with it.
+    /// Whether an extra carriage return is all that is wrong with the line.
     fn has_return(&self) -> bool {
         match (self.is, self.due) {
             ([is @ .., b'\r', b'\n'], [due @ .., b'\n']) => is == due,

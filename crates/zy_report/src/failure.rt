@@ -3,7 +3,7 @@
 use std::io::ErrorKind;
 use std::{fmt, io};
 
-/// The number by which the system says that a stream is not open for reading.
+/// The system's error number for a stream that is not open for reading.
 const NOT_OPEN: i32 = 9;
 
 /// Why an input could not be opened or read.

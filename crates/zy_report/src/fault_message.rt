@@ -13,9 +13,9 @@ pub struct InputRead<'a> {
     pub command: CommandName,
     /// The name of the file that it begins with.
     pub file: Option<&'a str>,
-    /// How many lines are above standard input, where that is read below a file.
+    /// How many lines precede standard input, if it is read below a file.
     pub lines: Option<usize>,
-    /// What was read, of the file and of standard input together.
+    /// The bytes that were read from the file and from standard input.
     pub bytes: &'a [u8],
     /// Why it was not read to its end.
     pub failure: Option<Failure>,

@@ -18,7 +18,7 @@ pub enum Cause {
 }
 
 impl Cause {
-    /// The place of the cause among the others, the clearest first.
+    /// The rank of the cause; the clearest has the lowest.
     fn rank(self) -> u8 {
         match self {
             Cause::NotBegun => 0,
@@ -56,7 +56,7 @@ fn tell_place<W: fmt::Write>(
     write!(f, "{is} at {here}, and {was} run at {there}")
 }
 
-/// Transactions of which nothing came, all for the same cause.
+/// Transactions that did nothing, all for the same cause.
 #[derive(Clone, Copy)]
 struct Stalled {
     cause: Cause,
@@ -208,7 +208,7 @@ pub struct NoEffect {
 }
 
 impl NoEffect {
-    /// What to say of a run: something where nothing came of the steps of a transaction, or else of all choices.
+    /// The message about a run in which the steps of some transaction, or all choices, did nothing.
     pub fn of(machine: &Machine) -> Option<NoEffect> {
         let reason = match Stalled::of(machine) {
             Some(stalled) => Reason::Stalled(stalled),

@@ -14,7 +14,7 @@ pub struct RefusedLine<'a> {
 }
 
 impl<'a> RefusedLine<'a> {
-    /// Why a line of this input, which is this file if there is one, is none of a log.
+    /// Why a line of this input (of this file, if there is one) is not a line of a log.
     pub fn of(file: Option<&'a str>, input: &'a [u8], refusal: LogLineFault) -> RefusedLine<'a> {
         RefusedLine {
             file,

@@ -26,7 +26,7 @@ pub struct RefusedObject<'a> {
 }
 
 impl<'a> RefusedObject<'a> {
-    /// Why a line of this input, which is this file if there is one, tells no line of a log.
+    /// Why a line of this input (of this file, if there is one) does not tell a line of a log.
     pub fn of(file: Option<&'a str>, input: &'a [u8], refusal: JsonLineFault) -> RefusedObject<'a> {
         RefusedObject {
             file,
