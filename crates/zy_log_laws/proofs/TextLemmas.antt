@@ -51,36 +51,40 @@ reason_spaced why.NoPage = refl
 reason_spaced (why.Frozen p) = refl
 reason_spaced (why.Gone p) = refl
 
+-- the text of an outcome is its words with a space between them, and there is one at least
+outcome_told : (o : Outcome) → (outcome_text o ≡ spaced (outcome_words o)) × (has_words (outcome_words o) ≡ true)
+outcome_told outcome.Started = (refl, refl)
+outcome_told outcome.BadMode = (refl, refl)
+outcome_told (outcome.Began n) = (refl, refl)
+outcome_told outcome.Idle = (refl, refl)
+outcome_told outcome.Elsewhere = (refl, refl)
+outcome_told outcome.NotYet = (refl, refl)
+outcome_told outcome.Did = (refl, refl)
+outcome_told (outcome.Split p q k) = (refl, refl)
+outcome_told (outcome.Aborted w) = (reason_spaced w, refl)
+outcome_told (outcome.Committed n) = (refl, refl)
+outcome_told (outcome.Waits n) = (refl, refl)
+outcome_told (outcome.Pulls n) = (refl, refl)
+outcome_told (outcome.Awaits n) = (refl, refl)
+outcome_told outcome.NoMessage = (refl, refl)
+outcome_told outcome.GotWire = (refl, refl)
+outcome_told outcome.GotReady = (refl, refl)
+outcome_told outcome.GotDual = (refl, refl)
+outcome_told (outcome.Stale n) = (refl, refl)
+outcome_told (outcome.Held n) = (refl, refl)
+outcome_told (outcome.GotPull n) = (refl, refl)
+outcome_told (outcome.GotPage n) = (refl, refl)
+outcome_told outcome.GotFinish = (refl, refl)
+outcome_told outcome.GotDone = (refl, refl)
+outcome_told outcome.Stray = (refl, refl)
+outcome_told outcome.Finishing = (refl, refl)
+outcome_told (outcome.Active n) = (refl, refl)
+outcome_told (outcome.Pushed n) = (refl, refl)
+outcome_told outcome.NoPush = (refl, refl)
+
 -- the text of an outcome
 pub outcome_spaced : (o : Outcome) → outcome_text o ≡ spaced (outcome_words o)
-outcome_spaced outcome.Started = refl
-outcome_spaced outcome.BadMode = refl
-outcome_spaced (outcome.Began n) = refl
-outcome_spaced outcome.Idle = refl
-outcome_spaced outcome.Elsewhere = refl
-outcome_spaced outcome.NotYet = refl
-outcome_spaced outcome.Did = refl
-outcome_spaced (outcome.Split p q k) = refl
-outcome_spaced (outcome.Aborted w) = reason_spaced w
-outcome_spaced (outcome.Committed n) = refl
-outcome_spaced (outcome.Waits n) = refl
-outcome_spaced (outcome.Pulls n) = refl
-outcome_spaced (outcome.Awaits n) = refl
-outcome_spaced outcome.NoMessage = refl
-outcome_spaced outcome.GotWire = refl
-outcome_spaced outcome.GotReady = refl
-outcome_spaced outcome.GotDual = refl
-outcome_spaced (outcome.Stale n) = refl
-outcome_spaced (outcome.Held n) = refl
-outcome_spaced (outcome.GotPull n) = refl
-outcome_spaced (outcome.GotPage n) = refl
-outcome_spaced outcome.GotFinish = refl
-outcome_spaced outcome.GotDone = refl
-outcome_spaced outcome.Stray = refl
-outcome_spaced outcome.Finishing = refl
-outcome_spaced (outcome.Active n) = refl
-outcome_spaced (outcome.Pushed n) = refl
-outcome_spaced outcome.NoPush = refl
+outcome_spaced o = (outcome_told o).0
 
 -- the word of a kind of message
 kind_same : (k : Kind) → kind_text k ≡ kind_word k
@@ -92,38 +96,7 @@ kind_same kind.Page = refl
 kind_same kind.Finish = refl
 kind_same kind.Done = refl
 
--- an outcome has words
-outcome_some : (o : Outcome) → has_words (outcome_words o) ≡ true
-outcome_some outcome.Started = refl
-outcome_some outcome.BadMode = refl
-outcome_some (outcome.Began n) = refl
-outcome_some outcome.Idle = refl
-outcome_some outcome.Elsewhere = refl
-outcome_some outcome.NotYet = refl
-outcome_some outcome.Did = refl
-outcome_some (outcome.Split p q k) = refl
-outcome_some (outcome.Aborted w) = refl
-outcome_some (outcome.Committed n) = refl
-outcome_some (outcome.Waits n) = refl
-outcome_some (outcome.Pulls n) = refl
-outcome_some (outcome.Awaits n) = refl
-outcome_some outcome.NoMessage = refl
-outcome_some outcome.GotWire = refl
-outcome_some outcome.GotReady = refl
-outcome_some outcome.GotDual = refl
-outcome_some (outcome.Stale n) = refl
-outcome_some (outcome.Held n) = refl
-outcome_some (outcome.GotPull n) = refl
-outcome_some (outcome.GotPage n) = refl
-outcome_some outcome.GotFinish = refl
-outcome_some outcome.GotDone = refl
-outcome_some outcome.Stray = refl
-outcome_some outcome.Finishing = refl
-outcome_some (outcome.Active n) = refl
-outcome_some (outcome.Pushed n) = refl
-outcome_some outcome.NoPush = refl
-
--- so has a choice
+-- a choice has words
 choice_some : (c : Choice) → has_words (choice_words c) ≡ true
 choice_some Start = refl
 choice_some (Begin t) = refl
@@ -139,13 +112,13 @@ told_spaced o None = append-nil (outcome_text o) ∙ outcome_spaced o ∙ ap spa
 told_spaced o (Some kind) =
     ap (λ l. l ++ (codes " ! " ++ kind_text kind)) (outcome_spaced o)
     ∙ ap (λ l. spaced (outcome_words o) ++ (codes " ! " ++ l)) (kind_same kind)
-    ∙ sym (spaced_more (outcome_words o) (codes "!" ∷ kind_word kind ∷ []) (outcome_some o) refl)
+    ∙ sym (spaced_more (outcome_words o) (codes "!" ∷ kind_word kind ∷ []) (outcome_told o).1 refl)
 
 -- the text of a step
 pub step_spaced : (i : ℕ) (e : Entry) → step_text i e ≡ spaced (decimal i ∷ step_words e)
 step_spaced i e =
     let told = outcome_words e.outcome ++ sent_words e.sent in
-    let arrow = sym (spaced_front (codes "->") told (some_more (outcome_words e.outcome) (sent_words e.sent) (outcome_some e.outcome))) in
+    let arrow = sym (spaced_front (codes "->") told (some_more (outcome_words e.outcome) (sent_words e.sent) (outcome_told e.outcome).1)) in
     let made = choice_words e.choice in
     let Line : List ℕ → List ℕ = λ l. decimal i ++ (32 ∷ (spaced made ++ (32 ∷ l))) in
     ap Line (ap (λ l. codes "-> " ++ l) (told_spaced e.outcome e.sent) ∙ arrow)
