@@ -1,5 +1,5 @@
-//! Calls of the libraries, in which a request for memory is refused (tests/library-refusals): `zy_alloc_failures NAME < INPUT`
-//! makes the calls of a sweep and prints what was found.
+//! Tests calls of the libraries while a request for memory is refused (tests/library-refusals). `zy_alloc_failures NAME < INPUT`
+//! makes the calls of a sweep and prints what it found.
 #![tactic(auto)]
 
 mod parts;
@@ -23,11 +23,11 @@ use zy_threads::Board;
 use zy_txns::Txn;
 use zy_wire::Wire;
 
-/// How many turns of a loop a step of B waits where it is held up.
+/// How many turns of a loop a delayed step of B waits.
 const TURNS: u64 = 100;
 
-/// The sweep of a name. Those of parts need no input, and the others one with a scenario's text; that of `command` has
-/// commands below it.
+/// Makes the sweep of this name. Sweeps of parts need no input. The others need a scenario's text; `command` needs commands
+/// below it.
 fn swept<R: Threads + Wait + Sync>(
     rt: &R,
     name: &str,
@@ -59,7 +59,7 @@ fn words<R: AllocGlobal + Env>(rt: &R) -> Result<Vec<String>, Trouble> {
     args.collect(rt.alloc()).map_err(|_| Trouble::Setup)
 }
 
-/// Makes the sweep that the first word after the program's name names, over the input.
+/// Makes the sweep that the first argument names, over the input.
 fn asked<R: Input + AllocGlobal + Env + Threads + Wait + Sync>(rt: &R) -> Result<Answers, Trouble> {
     let words = words(rt)?;
     let Some(name) = words.get(1) else {
@@ -70,7 +70,7 @@ fn asked<R: Input + AllocGlobal + Env + Threads + Wait + Sync>(rt: &R) -> Result
     swept(rt, name.as_str(), rt.alloc(), input.as_slice())
 }
 
-/// Prints what was found.
+/// Prints the result of a sweep.
 fn print(rt: &impl Print, found: Result<Answers, Trouble>) -> std::io::Result<()> {
     match found {
         Ok(

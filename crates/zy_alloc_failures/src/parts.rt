@@ -10,15 +10,15 @@ use zy_model::LockKind;
 use zy_txns::Txn;
 use zy_wire::{Wire, WireFault};
 
-/// How often each grows. A wireframe of 20 pages has nodes that were cut.
+/// How often each part grows. A wireframe of 20 pages has split tree nodes.
 const COUNT: usize = 20;
 
-/// The key of a place, in no order.
+/// The key for a place. The keys are in no order.
 fn key_of(place: usize) -> u16 {
     (place % 23) as u16 * 7 % 23 * 100 + 50
 }
 
-/// One page more with this low key, if no page has it.
+/// Adds a page with this low key, unless a page has it.
 fn grown(wire: &mut Wire, low: u16) -> Result<(), WireFault> {
     let page = wire.page_of(low);
     if wire.low_of(page) == low {
@@ -49,8 +49,8 @@ impl Subject for Wire {
     }
 }
 
-/// Two transactions share five pages, and then each asks for five others for itself. A lock that is in conflict with
-/// another changes nothing.
+/// Two transactions share five pages, then both ask for exclusive locks on five others. The second request for each page
+/// conflicts, and changes nothing.
 impl Subject for Locks {
     fn make(alloc: Global, _input: &[u8]) -> Result<Locks, Trouble> {
         Ok(Locks::new(alloc))

@@ -1,4 +1,4 @@
-//! What has a scenario: its machines, boards, debuggers, lines and programs.
+//! Subjects with a scenario: machines, boards, debuggers, lines and programs.
 ghost use Rattle.std.specs.Prelude.{◌≡◌, ◌<◌};
 
 use crate::sweeping::{Subject, Trouble};
@@ -58,16 +58,16 @@ impl Subject for Board {
     }
 }
 
-/// The choice of a place in a machine's scenario.
+/// The choice at a place of a machine's scenario.
 fn choice_at(machine: &Machine, place: usize) -> Result<Choice, Trouble> {
     let choice = machine.scenario().choices().get(place).copied();
     choice.ok_or(Trouble::Fault)
 }
 
-/// The choice that is left out of a history, so that a machine cannot go along the rest of it.
+/// The choice that the machine skips, so that it leaves the shared history there.
 const LEFT_OUT: usize = 3;
 
-/// `Machine::step` for all choices but one, on a machine that goes along a history of all until then.
+/// `Machine::step` for all choices but one, on a machine that shares a history of all choices until then.
 #[derive(Drop)]
 pub struct Apart {
     machine: Machine,
@@ -154,7 +154,7 @@ fn commands_of(alloc: Global, text: &[u8]) -> Result<Vec<Command>, Trouble> {
     Ok(commands)
 }
 
-/// What a command is answered, as numbers.
+/// The answer to a command, as numbers.
 fn numbers_of(answer: Result<Reply, DebugFault>) -> [usize; 3] {
     match answer {
         Ok(Reply::At(at)) => [0, at, 0],
@@ -166,13 +166,13 @@ fn numbers_of(answer: Result<Reply, DebugFault>) -> [usize; 3] {
     }
 }
 
-/// A debugger keeps copies of the machine at multiples of this.
+/// A debugger keeps a copy of the machine each time it has made this many choices.
 const EVERY: usize = 2;
 
-/// How many it keeps.
+/// How many copies it keeps.
 const RING: usize = 1;
 
-/// `Debugger::command` for each command below a scenario. What is answered shows the stops.
+/// `Debugger::command` for each command below a scenario. The answers show the stops.
 #[derive(Drop)]
 pub struct Session {
     debugger: Debugger,
@@ -223,7 +223,7 @@ pub struct Lines {
     machine: Machine,
     /// The last line.
     whole: LineBuffer,
-    /// What there was of the next one, where its call was out of memory.
+    /// The part of the next line that a call appended before it ran out of memory.
     cut: LineBuffer,
 }
 
@@ -259,7 +259,7 @@ impl Subject for Lines {
         usize::from(self.machine.page_count()) + self.machine.txn_count() + 2
     }
 
-    /// Where the call is out of memory, what is there of the line must be a prefix of it.
+    /// If the call runs out of memory, what it appended must be a prefix of the line.
     fn call(&mut self, place: usize) -> Result<(), Trouble> {
         let mut line = LineBuffer::new(self.alloc);
         let outcome = self.append(place, &mut line);

@@ -1,4 +1,4 @@
-//! Calls that are out of memory once, and what is found then.
+//! Makes calls of which one may run out of memory, and compares their effects.
 
 use std::alloc::{AllocError, Global};
 use zy_asm::{AsmKind, LineFault};
@@ -7,23 +7,23 @@ use zy_io::ReadFault;
 use zy_isa::ProgramFault;
 use zy_wire::WireFault;
 
-/// Why calls have not all answered.
+/// Why a sweep fails.
 #[derive(Clone, Copy)]
 pub enum Trouble {
-    /// What the calls are made on, or compared with, is out of memory.
+    /// A subject or its twin could not be made: out of memory.
     Setup,
-    /// A call is out of memory, which one made again should not be.
+    /// A call ran out of memory although it was made again.
     Memory,
-    /// A call fails in another way.
+    /// A call failed in another way.
     Fault,
-    /// A call was out of memory, and changed something.
+    /// A call ran out of memory and changed its subject.
     Changed,
-    /// What is there to be seen is not what it should be.
+    /// The subject differs from its twin.
     Different,
 }
 
 impl Trouble {
-    /// What is printed of it.
+    /// The words that the program prints for it.
     pub fn words(self) -> &'static str {
         match self {
             Trouble::Setup => "no memory outside the calls",
@@ -79,7 +79,7 @@ impl From<WireFault> for Trouble {
     }
 }
 
-/// What the calls are made on, or compared with. Where it is out of memory, no call is.
+/// The value of a call that is not under test. If it runs out of memory, the sweep cannot be made.
 pub fn setup<T: Drop, F: Into<Trouble> + Drop>(made: Result<T, F>) -> Result<T, Trouble> {
     match made {
         Ok(value) => Ok(value),
@@ -90,9 +90,9 @@ pub fn setup<T: Drop, F: Into<Trouble> + Drop>(made: Result<T, F>) -> Result<T, 
     }
 }
 
-/// What calls are made on in order.
+/// A value on which a sweep makes its calls, in order.
 pub trait Subject: Drop {
-    /// One on which no call was made.
+    /// A fresh subject, before any call.
     fn make(alloc: Global, input: &[u8]) -> Result<Self, Trouble>;
 
     /// How many calls there are.
@@ -101,21 +101,21 @@ pub trait Subject: Drop {
     /// Makes the call at a place.
     fn call(&mut self, place: usize) -> Result<(), Trouble>;
 
-    /// Whether what can be seen of it can be seen of another.
+    /// Whether a caller sees no difference between the two.
     fn is_same(&self, other: &Self) -> bool;
 }
 
-/// Calls that all answered.
+/// The result of a sweep in which every call answered.
 #[derive(Clone, Copy)]
 pub struct Answers {
-    /// How many there are.
+    /// The number of calls.
     pub count: usize,
-    /// Whether one of them was out of memory before.
+    /// Whether one of them ran out of memory at first.
     pub again: bool,
 }
 
-/// Makes each call on a subject and then on its twin, and compares them. At most one request is refused in a run of the
-/// program: where a call on the subject was out of memory, none on the twin was.
+/// Makes each call on a subject and then on its twin, and compares them. A run of the program refuses at most one request, so
+/// if a call on the subject ran out of memory, none on the twin did.
 pub fn sweep<S: Subject>(alloc: Global, input: &[u8]) -> Result<Answers, Trouble> {
     let mut subject = setup(S::make(alloc, input))?;
     let mut twin = setup(S::make(alloc, input))?;
@@ -131,7 +131,7 @@ pub fn sweep<S: Subject>(alloc: Global, input: &[u8]) -> Result<Answers, Trouble
     Ok(Answers { count, again })
 }
 
-/// Makes a call, and again where it was out of memory and changed nothing, and returns whether it was.
+/// Makes a call. If it runs out of memory and changes nothing, makes it again. Returns whether it ran out of memory.
 fn called<S: Subject>(subject: &mut S, twin: &S, place: usize) -> Result<bool, Trouble> {
     match subject.call(place) {
         Ok(()) => Ok(false),

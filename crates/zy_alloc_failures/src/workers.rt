@@ -11,7 +11,7 @@ use zy_table::Entry;
 use zy_threads::Gate;
 use zy_threads::run::run_threads;
 
-/// How many turns of a loop a look at a gate takes that is to be quiet.
+/// For how many turns of a loop a look checks that the gate stays quiet.
 const LOOK: u64 = 100;
 
 /// How many choices an actor has.
@@ -20,7 +20,7 @@ fn count_of(actor: Actor, choices: &[Choice]) -> u64 {
     own.count() as u64
 }
 
-/// Counts the calls for each actor, and waits for some turns of a loop in those for B.
+/// Counts the calls for each actor, and delays those for B by some turns of a loop.
 #[derive(Drop)]
 struct Counting {
     turns: u64,
@@ -53,7 +53,7 @@ impl Counting {
         self.calls(actor).load(Ordering::SeqCst)
     }
 
-    /// Whether each call had the number behind that of the actor's call before, and the first ones alone no entry.
+    /// Whether each actor's calls were numbered in order, and only its first call had no entry.
     fn is_numbered(&self) -> bool {
         self.wrong.load(Ordering::SeqCst) == 0
     }
@@ -120,7 +120,7 @@ fn is_made<R: Threads + Wait + Sync>(
     }
 }
 
-/// The same under a gate, whose calls must be as they should be.
+/// Does the same under a gate, and checks the gate's calls.
 fn run<R: Threads + Wait + Sync>(
     rt: &R,
     alloc: Global,
@@ -139,7 +139,7 @@ fn run<R: Threads + Wait + Sync>(
     }
 }
 
-/// `run_threads` of a text's scenario, and again where it was out of memory. Each step of B waits for some turns of a loop.
+/// `run_threads` of a text's scenario, made again if it runs out of memory. Each step of B waits for some turns of a loop.
 pub fn sweep_workers<R: Threads + Wait + Sync>(
     rt: &R,
     alloc: Global,
