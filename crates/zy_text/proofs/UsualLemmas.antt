@@ -1,9 +1,8 @@
 -- Lines that begin with given bytes.
-use Rattle.std.proofs.Common.{◌≡◌, ◌≤◌, ◌+◌, ◌-◌, ◌*◌, ◌∙◌, ◌∷◌, ◌++◌, [], ℕ, List, true, false, zero, suc, ap, ap₂, ◌/◌, ◌%◌, sym, refl, take, drop, get_or, arith, length, codes}
+use Rattle.std.proofs.Common.{◌≡◌, ◌≤◌, ◌+◌, ◌-◌, ◌*◌, ◌∙◌, ◌∷◌, ◌++◌, [], ℕ, List, false, zero, suc, ap, ap₂, ◌/◌, ◌%◌, sym, refl, take, drop, get_or, arith, length, codes}
 use Rattle.std.proofs.Math.Seq.{drop-cons, take-length}
 use Rattle.std.proofs.lemmas.List.{length-drop}
 use Rattle.std.proofs.lemmas.Fmt.{decimal_digit}
-use Rattle.std.specs.Char.{is_ascii_digit}
 use Rattle.std.specs.Fmt.{decimal}
 use Rattle.zy_io.proofs.DigitLemmas.{decimal_two}
 use Rattle.zy_text.specs.Words.{words_of}
@@ -68,35 +67,26 @@ behind_begin text n a b c d e f =
 -- ---- a number at the end of a line
 
 -- a digit ends no word
-digit_in_word : (d : ℕ) → is_ascii_digit d ≡ true → ends_word d ≡ false
+digit_in_word : (d : ℕ) → d ≤ 9 → ends_word (48 + d) ≡ false
 digit_in_word d h = grind (arith, tests)
 
 -- a digit before a line feed
-pub one_digit : (text : List ℕ) → 2 ≤ length text → is_ascii_digit (get_or text 0 0) ≡ true → get_or text 1 0 ≡ 10
-    → line_words text ≡ decimal (get_or text 0 0 - 48) ∷ []
-one_digit text n h e =
-    let d = get_or text 0 0 in
-    let same : text ≡ d ∷ 10 ∷ drop 2 text = bytes_behind 2 0 text n ∙ cc in
-    let low : 48 ≤ d = grind (arith, tests) in
-    let high : d ≤ 57 = grind (arith, tests) in
-    let number : decimal (d - 48) ≡ d ∷ [] = decimal_digit (d - 48) (omega arith) ∙ ap (λ x. x ∷ []) (omega arith) in
-    ap line_words same ∙ word_taken (d ∷ 10 ∷ drop 2 text) ∙ rw (digit_in_word d h, number, words_lf 10 (drop 2 text) refl) refl
+pub one_digit : (d : ℕ) (text : List ℕ) → 2 ≤ length text → d ≤ 9 → get_or text 0 0 ≡ 48 + d → get_or text 1 0 ≡ 10
+    → line_words text ≡ decimal d ∷ []
+one_digit d text n low f e =
+    let same : text ≡ (48 + d) ∷ 10 ∷ drop 2 text = bytes_behind 2 0 text n ∙ cc in
+    let number : decimal d ≡ (48 + d) ∷ [] = decimal_digit d (omega (arith, low)) ∙ ap (λ x. x ∷ []) (omega arith) in
+    ap line_words same ∙ word_taken ((48 + d) ∷ 10 ∷ drop 2 text) ∙ rw (digit_in_word d low, number, words_lf 10 (drop 2 text) refl) refl
 
 -- two digits before a line feed, the first not 0
-pub two_digits : (text : List ℕ) → 3 ≤ length text → is_ascii_digit (get_or text 0 0) ≡ true → (get_or text 0 0 ≡ 48 → ⊥)
-    → is_ascii_digit (get_or text 1 0) ≡ true → get_or text 2 0 ≡ 10
-    → line_words text ≡ decimal (10 * (get_or text 0 0 - 48) + (get_or text 1 0 - 48)) ∷ []
-two_digits text n h some k e =
-    let t = get_or text 0 0 in
-    let o = get_or text 1 0 in
-    let same : text ≡ t ∷ o ∷ 10 ∷ drop 3 text = bytes_behind 3 0 text n ∙ cc in
-    let low : 48 ≤ t = grind (arith, tests) in
-    let high : t ≤ 57 = grind (arith, tests) in
-    let under : o ≤ 57 = grind (arith, tests) in
-    let over : 48 ≤ o = grind (arith, tests) in
-    let more : 49 ≤ t = grind (arith, some) in
-    let value = 10 * (t - 48) + (o - 48) in
-    let tens : 48 + value / 10 ≡ t = omega arith in
-    let ones : 48 + value % 10 ≡ o = omega arith in
-    let number : decimal value ≡ t ∷ o ∷ [] = decimal_two value (omega arith) (omega arith) ∙ ap₂ (λ x y. x ∷ y ∷ []) tens ones in
-    ap line_words same ∙ word_taken (t ∷ o ∷ 10 ∷ drop 3 text) ∙ rw (digit_in_word t h, digit_in_word o k, number, words_lf 10 (drop 3 text) refl) refl
+pub two_digits : (t o : ℕ) (text : List ℕ) → 3 ≤ length text → t ≤ 9 → (t ≡ 0 → ⊥) → o ≤ 9 → get_or text 0 0 ≡ 48 + t → get_or text 1 0 ≡ 48 + o
+    → get_or text 2 0 ≡ 10 → line_words text ≡ decimal (10 * t + o) ∷ []
+two_digits t o text n low some below f g e =
+    let same : text ≡ (48 + t) ∷ (48 + o) ∷ 10 ∷ drop 3 text = bytes_behind 3 0 text n ∙ cc in
+    let more : 1 ≤ t = grind (arith, some) in
+    let value = 10 * t + o in
+    let tens : 48 + value / 10 ≡ 48 + t = omega arith in
+    let ones : 48 + value % 10 ≡ 48 + o = omega arith in
+    let number : decimal value ≡ (48 + t) ∷ (48 + o) ∷ [] = decimal_two value (omega arith) (omega arith) ∙ ap₂ (λ x y. x ∷ y ∷ []) tens ones in
+    ap line_words same ∙ word_taken ((48 + t) ∷ (48 + o) ∷ 10 ∷ drop 3 text)
+    ∙ rw (digit_in_word t low, digit_in_word o below, number, words_lf 10 (drop 3 text) refl) refl

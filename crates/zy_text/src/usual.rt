@@ -1,5 +1,6 @@
 //! The lines that most schedules have most of, which are cut at fixed places.
-ghost use Rattle.std.specs.Prelude.{◌≡◌, ◌<◌, ◌∷◌, [], IfSome, length, codes};
+ghost use Rattle.std.specs.Prelude.{◌≡◌, ◌<◌, ◌≤◌, ◌+◌, ◌∷◌, [], IfSome, length, codes, true};
+ghost use Rattle.zy_isa.specs.Choices.{names_below};
 ghost use Rattle.std.specs.Fmt.{decimal};
 ghost use Rattle.zy_text.specs.Words.{lines_of, words_of};
 ghost use Rattle.zy_text.specs.Lines.{first_line, lines_below};
@@ -16,49 +17,52 @@ pub struct UsualLine<'a> {
     pub below: &'a [u8],
 }
 
-/// A text's first line, if it is the canonical text of `C begin`, `run`, `take` or `push`, with a number below 100, and ends with
-/// a line feed.
+/// A text's first line, if it is the canonical text of `C begin`, `run`, `take` or `push`, ends with a line feed, and names
+/// a transaction below `count` and 100, or none.
 #[inline(always)]
-pub fn usual_line(text: &[u8]) -> Option<UsualLine<'_>>
+pub fn usual_line(count: usize, text: &[u8]) -> Option<UsualLine<'_>>
     ensures words { IfSome result (λ r. words_of (first_line text.entry.now) ≡ choice_words r.choice) }
+    ensures named { IfSome result (λ r. names_below count r.choice ≡ true) }
     ensures below { IfSome result (λ r. lines_of r.below.now ≡ lines_below text.entry.now) }
     ensures shorter { IfSome result (λ r. length r.below.now < length text.entry.now) }
 {
     match text {
-        [b'A', b' ', rest @ ..] => node_line(Node::A, rest),
-        [b'B', b' ', rest @ ..] => node_line(Node::B, rest),
-        [b'C', b' ', rest @ ..] => client_line(rest),
+        [b'A', b' ', rest @ ..] => node_line(Node::A, count, rest),
+        [b'B', b' ', rest @ ..] => node_line(Node::B, count, rest),
+        [b'C', b' ', rest @ ..] => client_line(count, rest),
         _ => None,
     }
 }
 
-/// The choice of the client that the words behind its letter tell.
+/// The choice of the client whose words behind `C` are a text's first line.
 #[inline(always)]
-fn client_line(text: &[u8]) -> Option<UsualLine<'_>>
+fn client_line(count: usize, text: &[u8]) -> Option<UsualLine<'_>>
     ensures words { IfSome result (λ r. codes "C" ∷ words_of (first_line text.entry.now) ≡ choice_words r.choice) }
+    ensures named { IfSome result (λ r. names_below count r.choice ≡ true) }
     ensures below { IfSome result (λ r. lines_of r.below.now ≡ lines_below text.entry.now) }
     ensures shorter { IfSome result (λ r. length r.below.now < length text.entry.now) }
 {
     let [b'b', b'e', b'g', b'i', b'n', b' ', rest @ ..] = text else {
         return None;
     };
-    let number = last_number(rest)?;
+    let number = last_number(count, rest)?;
     Some(UsualLine {
         choice: Choice::Begin(number.value),
         below: number.below,
     })
 }
 
-/// The choice of a node that the words behind its letter tell.
+/// The choice of a node whose words behind the node are a text's first line.
 #[inline(always)]
-fn node_line(node: Node, text: &[u8]) -> Option<UsualLine<'_>>
+fn node_line(node: Node, count: usize, text: &[u8]) -> Option<UsualLine<'_>>
     ensures words { IfSome result (λ r. node_text node ∷ words_of (first_line text.entry.now) ≡ choice_words r.choice) }
+    ensures named { IfSome result (λ r. names_below count r.choice ≡ true) }
     ensures below { IfSome result (λ r. lines_of r.below.now ≡ lines_below text.entry.now) }
     ensures shorter { IfSome result (λ r. length r.below.now < length text.entry.now) }
 {
     match text {
         [b'r', b'u', b'n', b' ', rest @ ..] => {
-            let number = last_number(rest)?;
+            let number = last_number(count, rest)?;
             Some(UsualLine {
                 choice: Choice::Run(node, number.value),
                 below: number.below,
@@ -83,28 +87,52 @@ struct LastNumber<'a> {
     below: &'a [u8],
 }
 
-/// A number of one or two digits, the first of two not 0, if a line feed is behind it.
+/// The number below `count` that is a text's first line, if it has one digit, or two of which the first is not 0, and a line
+/// feed is behind it.
 #[inline(always)]
-fn last_number(text: &[u8]) -> Option<LastNumber<'_>>
+fn last_number(count: usize, text: &[u8]) -> Option<LastNumber<'_>>
     ensures words { IfSome result (λ r. words_of (first_line text.entry.now) ≡ decimal r.value ∷ []) }
+    ensures named { IfSome result (λ r. r.value < count) }
     ensures below { IfSome result (λ r. lines_of r.below.now ≡ lines_below text.entry.now) }
     ensures shorter { IfSome result (λ r. length r.below.now < length text.entry.now) }
 {
     match text {
         [ones, b'\n', below @ ..] => {
-            if !ones.is_ascii_digit() {
-                return None;
-            }
-            let value = *ones - b'0';
+            let value = if_below(count, digit_of(*ones)?)?;
             Some(LastNumber { value, below })
         }
         [tens, ones, b'\n', below @ ..] => {
-            if *tens == b'0' || !tens.is_ascii_digit() || !ones.is_ascii_digit() {
+            let tens = digit_of(*tens)?;
+            let ones = digit_of(*ones)?;
+            if tens == 0 {
                 return None;
             }
-            let value = 10 * (*tens - b'0') + (*ones - b'0');
+            let value = if_below(count, 10 * tens + ones)?;
             Some(LastNumber { value, below })
         }
+        _ => None,
+    }
+}
+
+/// The number, if it is below `count`.
+#[inline(always)]
+fn if_below(count: usize, number: u8) -> Option<u8>
+    ensures { IfSome result (λ r. (r ≡ number) × (number < count)) }
+{
+    if usize::from(number) < count {
+        Some(number)
+    } else {
+        None
+    }
+}
+
+/// The value of a digit.
+#[inline(always)]
+fn digit_of(byte: u8) -> Option<u8>
+    ensures { IfSome result (λ d. (byte ≡ 48 + d) × (d ≤ 9)) }
+{
+    match byte {
+        b'0'..=b'9' => Some(byte - b'0'),
         _ => None,
     }
 }

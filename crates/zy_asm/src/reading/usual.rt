@@ -24,26 +24,14 @@ impl Reader {
         ensures shorter { IfSome result (λ below. length below.now < length text.entry.now) }
         ensures other { result ≡ None → progress_of self.new ≡ progress_of self.old }
     {
-        let line = usual_line(text)?;
-        if !self.has_place_for(line.choice) {
+        if self.stage != Stage::Choices || self.choices.len() >= MAX_CHOICES {
             return None;
         }
+        let line = usual_line(self.programs.len(), text)?;
         if self.choices.push(line.choice).is_err() {
             return None;
         }
         Some(line.below)
-    }
-
-    /// Whether a choice may come next, made once.
-    #[inline(always)]
-    fn has_place_for(&self, choice: Choice) -> bool
-        ensures step { result ≡ true → line_step (progress_of self.now) (choice_words choice)
-            ≡ Ok (record (progress_of self.now) { choices = self.now.choices.items ++ choice ∷ [] }) }
-        ensures few { result ≡ true → length self.now.choices.items < max_choices }
-    {
-        self.stage == Stage::Choices
-            && self.choices.len() < MAX_CHOICES
-            && choice.names_below(self.programs.len())
     }
 
     /// The instruction of a line, where it has two words behind its operation and names no label, as most do, and there
