@@ -8,6 +8,9 @@ use Rattle.zy_io.proofs.DigitLemmas.{decimal_two}
 use Rattle.zy_text.specs.Words.{words_of}
 use Rattle.zy_text.specs.Lines.{first_line, ends_word}
 use Rattle.zy_text.proofs.LineLemmas.{word_taken, words_space, words_lf}
+use Rattle.zy_isa.specs.declared.node.Node.{Node}
+use Rattle.zy_isa.specs.declared.node.Node.TheVariants.{A, B}
+use Rattle.zy_text.specs.Canon.{node_text}
 use borrow.Author.Tests.{tests}
 
 -- ---- the first bytes of a text
@@ -49,6 +52,17 @@ behind_actor a text n h e f =
     let same : text ≡ a ∷ 32 ∷ drop 2 text = bytes_behind 2 0 text n ∙ cc in
     ap line_words same ∙ node_word a (drop 2 text) h ∙ ap (λ t. (a ∷ []) ∷ line_words t) (sym (rest_whole 2 text))
 
+-- the name of a node is a letter that ends no word
+node_letter : (n : Node) (a : ℕ) → node_text n ≡ a ∷ [] → ends_word a ≡ false
+node_letter A a h = ap (λ w. ends_word (get_or w 0 0)) (sym h)
+node_letter B a h = ap (λ w. ends_word (get_or w 0 0)) (sym h)
+
+-- the name of a node and a space
+pub behind_node : (n : Node) (text : List ℕ) → 2 ≤ length text → node_text n ≡ get_or text 0 0 ∷ [] → get_or text 1 0 ≡ 32
+    → line_words text ≡ node_text n ∷ line_words (take (length text - 2) (drop 2 text))
+behind_node n text m h f = behind_actor (get_or text 0 0) text m (node_letter n (get_or text 0 0) h) refl f
+    ∙ ap (λ w. w ∷ line_words (take (length text - 2) (drop 2 text))) (sym h)
+
 -- `run` and a space
 pub behind_run : (text : List ℕ) → 4 ≤ length text → get_or text 0 0 ≡ 114 → get_or text 1 0 ≡ 117 → get_or text 2 0 ≡ 110 → get_or text 3 0 ≡ 32
     → line_words text ≡ codes "run" ∷ line_words (take (length text - 4) (drop 4 text))
@@ -79,11 +93,10 @@ one_digit d text n low f e =
     ap line_words same ∙ word_taken ((48 + d) ∷ 10 ∷ drop 2 text) ∙ rw (digit_in_word d low, number, words_lf 10 (drop 2 text) refl) refl
 
 -- two digits before a line feed, the first not 0
-pub two_digits : (t o : ℕ) (text : List ℕ) → 3 ≤ length text → t ≤ 9 → (t ≡ 0 → ⊥) → o ≤ 9 → get_or text 0 0 ≡ 48 + t → get_or text 1 0 ≡ 48 + o
+pub two_digits : (t o : ℕ) (text : List ℕ) → 3 ≤ length text → t ≤ 9 → 1 ≤ t → o ≤ 9 → get_or text 0 0 ≡ 48 + t → get_or text 1 0 ≡ 48 + o
     → get_or text 2 0 ≡ 10 → line_words text ≡ decimal (10 * t + o) ∷ []
-two_digits t o text n low some below f g e =
+two_digits t o text n low more below f g e =
     let same : text ≡ (48 + t) ∷ (48 + o) ∷ 10 ∷ drop 3 text = bytes_behind 3 0 text n ∙ cc in
-    let more : 1 ≤ t = grind (arith, some) in
     let value = 10 * t + o in
     let tens : 48 + value / 10 ≡ 48 + t = omega arith in
     let ones : 48 + value % 10 ≡ 48 + o = omega arith in

@@ -27,9 +27,20 @@ pub fn usual_line(count: usize, text: &[u8]) -> Option<UsualLine<'_>>
     ensures shorter { IfSome result (λ r. length r.below.now < length text.entry.now) }
 {
     match text {
-        [b'A', b' ', rest @ ..] => node_line(Node::A, count, rest),
-        [b'B', b' ', rest @ ..] => node_line(Node::B, count, rest),
         [b'C', b' ', rest @ ..] => client_line(count, rest),
+        [letter, b' ', rest @ ..] => node_line(node_of(*letter)?, count, rest),
+        _ => None,
+    }
+}
+
+/// The node that a letter names.
+#[inline(always)]
+fn node_of(letter: u8) -> Option<Node>
+    ensures { IfSome result (λ n. node_text n ≡ letter ∷ []) }
+{
+    match letter {
+        b'A' => Some(Node::A),
+        b'B' => Some(Node::B),
         _ => None,
     }
 }
@@ -98,15 +109,12 @@ fn last_number(count: usize, text: &[u8]) -> Option<LastNumber<'_>>
 {
     match text {
         [ones, b'\n', below @ ..] => {
-            let value = if_below(count, digit_of(*ones)?)?;
+            let value = if_below(count, digit_from(b'0', *ones)?)?;
             Some(LastNumber { value, below })
         }
         [tens, ones, b'\n', below @ ..] => {
-            let tens = digit_of(*tens)?;
-            let ones = digit_of(*ones)?;
-            if tens == 0 {
-                return None;
-            }
+            let tens = digit_from(b'1', *tens)?;
+            let ones = digit_from(b'0', *ones)?;
             let value = if_below(count, 10 * tens + ones)?;
             Some(LastNumber { value, below })
         }
@@ -126,13 +134,15 @@ fn if_below(count: usize, number: u8) -> Option<u8>
     }
 }
 
-/// The value of a digit.
+/// The value of a digit that is not below the least one.
 #[inline(always)]
-fn digit_of(byte: u8) -> Option<u8>
-    ensures { IfSome result (λ d. (byte ≡ 48 + d) × (d ≤ 9)) }
+fn digit_from(least: u8, byte: u8) -> Option<u8>
+    requires { 48 ≤ least }
+    ensures { IfSome result (λ d. (byte ≡ 48 + d) × ((d ≤ 9) × (least ≤ byte))) }
 {
-    match byte {
-        b'0'..=b'9' => Some(byte - b'0'),
-        _ => None,
+    if least <= byte && byte <= b'9' {
+        Some(byte - b'0')
+    } else {
+        None
     }
 }

@@ -24,10 +24,13 @@ impl Reader {
         ensures shorter { IfSome result (λ below. length below.now < length text.entry.now) }
         ensures other { result ≡ None → progress_of self.new ≡ progress_of self.old }
     {
-        if self.stage != Stage::Choices || self.choices.len() >= MAX_CHOICES {
+        if self.stage != Stage::Choices {
             return None;
         }
         let line = usual_line(self.programs.len(), text)?;
+        if self.choices.len() >= MAX_CHOICES {
+            return None;
+        }
         if self.choices.push(line.choice).is_err() {
             return None;
         }
