@@ -53,22 +53,22 @@ fn tell_checked<R: Eprint + AllocGlobal, W: Write>(
             Ok(DONE)
         }
         Verdict::NotTable(line) => {
-            let Some(due) = &checked.due else {
+            let Some(expected) = &checked.expected else {
                 return Err(BenchFault::Memory);
             };
             pass(output)?;
-            show(rt, file, listing, line, due.as_slice());
+            show(rt, file, listing, line, expected.as_slice());
             Ok(NOT_TABLE)
         }
     }
 }
 
 /// Shows on standard error the line of an input at which it is not the listing.
-fn show(rt: &impl Eprint, file: Option<&str>, input: &[u8], line: usize, due: &[u8]) {
+fn show(rt: &impl Eprint, file: Option<&str>, input: &[u8], line: usize, expected: &[u8]) {
     let differing = Differing {
         number: line,
         is: whole_line(input, line),
-        due,
+        expected,
         is_scenario: cut_len(input) == input.len(),
     };
     let origin = Origin::at(file, differing.position());

@@ -5,6 +5,7 @@ ghost use Rattle.zy_check.specs.Differs as spec;
 ghost use Rattle.zy_check.specs.Comparing.{sent_by};
 
 use crate::verdict::{Comparison, Verdict};
+use memchr::memchr_iter;
 use std::alloc::Global;
 use std::io;
 use std::marker::Model;
@@ -38,20 +39,20 @@ fn line_after(text: &[u8], count: usize) -> usize
     ensures { result ≡ feeds (take count text.now) + 1 }
 {
     let (front, _) = text.split_at(count);
-    front.iter().filter(|byte| **byte == b'\n').count() + 1
+    memchr_iter(b'\n', front).count() + 1
 }
 
-/// Compares what it is given with an input, and keeps none of it but the bytes of the call in which one differs: a line, where each
-/// line comes by one call. It takes all bytes through the first that differs, and none behind it, so a writer stops there.
+/// Compares what it is given with an input. It keeps only the bytes of the call in which one differs: a line, if each call puts
+/// a whole line. It takes all bytes through the first that differs, and none behind it, so a writer stops there.
 #[derive(Drop)]
 pub struct Comparing<'a> {
     input: &'a [u8],
-    // How many bytes of it came.
+    // How many of its bytes were taken.
     at: usize,
-    // This byte came behind them, and the input has none there or another.
+    // The byte taken behind them, which is not the input's there.
     other: Option<u8>,
-    // The bytes of the call in which it came; none before, and `None` where memory for them was refused.
-    due: Option<Vec<u8>>,
+    // The bytes of the call that it was in; none before, and `None` where memory for them was refused.
+    expected: Option<Vec<u8>>,
     // How many calls took nothing.
     refusals: u64,
     alloc: Global,
@@ -82,37 +83,27 @@ impl<'a> Comparing<'a> {
             input,
             at: 0,
             other: None,
-            due: Some(Vec::new(alloc)),
+            expected: Some(Vec::new(alloc)),
             refusals: 0,
             alloc,
         }
     }
 
-    /// The verdict on the input and the text that was taken. Where bytes were refused, no text behind it changes that.
-    pub fn verdict(&self) -> Verdict
-        ensures whole { result ≡ spec.verdict self.now.input self.now.text }
-        ensures prefix { 0 < self.now.refusals → (back : List ℕ)
-            → result ≡ spec.verdict self.now.input (self.now.text ++ back) }
-    {
-        if self.other.is_some() {
-            return Verdict::NotTable(line_after(self.input, self.at));
-        }
-        if self.at == self.input.len() {
-            Verdict::Table
-        } else {
-            Verdict::NotTable(line_after(self.input, self.at))
-        }
-    }
-
-    /// That verdict, and the line that was kept.
+    /// The verdict on the input and the text that was taken, and the line that was kept. Where bytes were refused, no text behind
+    /// them changes the verdict.
     pub fn finish(self) -> Comparison
         ensures whole { result.verdict ≡ spec.verdict self.entry.input self.entry.text }
         ensures prefix { 0 < self.entry.refusals → (back : List ℕ)
             → result.verdict ≡ spec.verdict self.entry.input (self.entry.text ++ back) }
     {
+        let verdict = if self.other.is_none() && self.at == self.input.len() {
+            Verdict::Table
+        } else {
+            Verdict::NotTable(line_after(self.input, self.at))
+        };
         Comparison {
-            verdict: self.verdict(),
-            due: self.due,
+            verdict,
+            expected: self.expected,
         }
     }
 }
@@ -133,7 +124,7 @@ impl Sink for Comparing<'_> {
         self.at += same;
         if let Some(byte) = back.first() {
             self.other = Some(*byte);
-            self.due = bytes.to_vec(self.alloc).ok();
+            self.expected = bytes.to_vec(self.alloc).ok();
             return Ok(same + 1);
         }
         Ok(same)

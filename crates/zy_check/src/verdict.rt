@@ -29,7 +29,7 @@ impl Line for Verdict {
 #[derive(Drop)]
 pub struct Comparison {
     pub verdict: Verdict,
-    /// The line of the listing in which they first differ, with its end, and empty where it has none there; `None` where memory for
-    /// it was refused.
-    pub due: Option<Vec<u8>>,
+    /// The line of the listing in which they first differ, with its line feed; empty if the listing ends above it, and `None` if
+    /// memory for it was refused.
+    pub expected: Option<Vec<u8>>,
 }

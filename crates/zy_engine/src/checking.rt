@@ -41,7 +41,7 @@ fn tell<K: Sink>(alloc: Global, verdict: Verdict, sink: &mut K) -> Result<(), Te
 pub struct CheckedListing {
     pub verdict: Verdict,
     /// The line that the listing has where the input first differs, as a `Comparison` has it.
-    pub due: Option<Vec<u8>>,
+    pub expected: Option<Vec<u8>>,
     /// It has made all choices of the scenario.
     pub machine: Machine,
 }
@@ -77,7 +77,7 @@ fn check_run<K: Sink>(
     match write_verdict(alloc, input, &machine, sink) {
         Ok(found) => Ok(CheckedListing {
             verdict: found.verdict,
-            due: found.due,
+            expected: found.expected,
             machine,
         }),
         Err(fault) => {

@@ -19,7 +19,7 @@ pub struct Differing<'a> {
     /// The line of the input, with its line feed; empty if the input ends above it.
     pub is: &'a [u8],
     /// The line of the listing; empty if the listing ends above it.
-    pub due: &'a [u8],
+    pub expected: &'a [u8],
     /// Whether the input has nothing below its scenario.
     pub is_scenario: bool,
 }
@@ -27,18 +27,18 @@ pub struct Differing<'a> {
 impl Differing<'_> {
     /// How many bytes of the line are right.
     fn right(&self) -> usize {
-        common_prefix(self.is, self.due)
+        common_prefix(self.is, self.expected)
     }
 
     /// Whether the steps of a trace begin where those of a listing are to begin.
     fn is_trace(&self) -> bool {
-        is(self.is, b"trace\n") && is(self.due, b"steps\n")
+        is(self.is, b"trace\n") && is(self.expected, b"steps\n")
     }
 
     /// Whether an extra carriage return is all that is wrong with the line.
     fn has_return(&self) -> bool {
-        match (self.is, self.due) {
-            ([is @ .., b'\r', b'\n'], [due @ .., b'\n']) => is == due,
+        match (self.is, self.expected) {
+            ([is @ .., b'\r', b'\n'], [expected @ .., b'\n']) => is == expected,
             _ => false,
         }
     }
@@ -61,16 +61,16 @@ impl fmt::Display for Differing<'_> {
         }
         let number = self.number;
         let at = self.right();
-        let (is, due) = (Excerpt::of(self.is, at), Excerpt::of(self.due, at));
-        if self.due.is_empty() {
+        let (is, expected) = (Excerpt::of(self.is, at), Excerpt::of(self.expected, at));
+        if self.expected.is_empty() {
             write!(f, "line {number} is {is}, and the listing ends above it")
         } else if self.is.is_empty() {
-            write!(f, "the listing goes on with line {number}, {due}")
+            write!(f, "the listing goes on with line {number}, {expected}")
         } else {
             let column = self.position().column;
             write!(
                 f,
-                "line {number} is {is} and should be {due}, from column {column} on"
+                "line {number} is {is} and should be {expected}, from column {column} on"
             )?;
             if self.has_return() {
                 f.write_str(": the lines of a listing end with a line feed alone")?;
