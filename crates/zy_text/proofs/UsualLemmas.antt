@@ -64,10 +64,10 @@ behind_node n text m h f = behind_actor (get_or text 0 0) text m (node_letter n 
     ∙ ap (λ w. w ∷ line_words (take (length text - 2) (drop 2 text))) (sym h)
 
 -- `run` and a space
-pub behind_run : (text : List ℕ) → 4 ≤ length text → get_or text 0 0 ≡ 114 → get_or text 1 0 ≡ 117 → get_or text 2 0 ≡ 110 → get_or text 3 0 ≡ 32
+pub behind_run : (text : List ℕ) → 4 ≤ length text → bytes_from 4 0 text ≡ codes "run "
     → line_words text ≡ codes "run" ∷ line_words (take (length text - 4) (drop 4 text))
-behind_run text n a b c d =
-    let same : text ≡ codes "run " ++ drop 4 text = bytes_behind 4 0 text n ∙ cc in
+behind_run text n h =
+    let same : text ≡ codes "run " ++ drop 4 text = bytes_behind 4 0 text n ∙ ap (λ front. front ++ drop 4 text) h in
     ap line_words same ∙ run_word (drop 4 text) ∙ ap (λ t. codes "run" ∷ line_words t) (sym (rest_whole 4 text))
 
 -- `begin` and a space

@@ -71,24 +71,36 @@ fn node_line(node: Node, count: usize, text: &[u8]) -> Option<UsualLine<'_>>
     ensures below { IfSome result (λ r. lines_of r.below.now ≡ lines_below text.entry.now) }
     ensures shorter { IfSome result (λ r. length r.below.now < length text.entry.now) }
 {
-    match text {
-        [b'r', b'u', b'n', b' ', rest @ ..] => {
-            let number = last_number(count, rest)?;
-            Some(UsualLine {
-                choice: Choice::Run(node, number.value),
-                below: number.below,
-            })
-        }
-        [b't', b'a', b'k', b'e', b'\n', below @ ..] => Some(UsualLine {
-            choice: Choice::Take(node),
-            below,
-        }),
-        [b'p', b'u', b's', b'h', b'\n', below @ ..] => Some(UsualLine {
-            choice: Choice::Push(node),
-            below,
-        }),
-        _ => None,
+    let [a, b, c, d, rest @ ..] = text else {
+        return None;
+    };
+    let action = [*a, *b, *c, *d];
+    if are_same(action, *b"run ") {
+        let number = last_number(count, rest)?;
+        return Some(UsualLine {
+            choice: Choice::Run(node, number.value),
+            below: number.below,
+        });
     }
+    let [b'\n', below @ ..] = rest else {
+        return None;
+    };
+    let choice = if are_same(action, *b"take") {
+        Choice::Take(node)
+    } else if are_same(action, *b"push") {
+        Choice::Push(node)
+    } else {
+        return None;
+    };
+    Some(UsualLine { choice, below })
+}
+
+/// Whether four bytes are the same as four others, by one comparison.
+#[inline(always)]
+fn are_same(bytes: [u8; 4], others: [u8; 4]) -> bool
+    ensures { result ≡ true → bytes ≡ others }
+{
+    u32::from_le_bytes(bytes) == u32::from_le_bytes(others)
 }
 
 /// A number that ends its line, and what is below the line.
