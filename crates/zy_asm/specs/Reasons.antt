@@ -7,6 +7,7 @@ use Rattle.zy_asm.specs.declared.faults.AsmFault.{AsmFault}
 use Rattle.zy_asm.specs.declared.faults.Reason.{Reason}
 use Rattle.zy_asm.specs.declared.faults.Reason.TheVariants as why
 use Rattle.zy_asm.specs.declared.faults.LineFault.{LineFault}
+use Rattle.zy_asm.specs.declared.word_fault.WordFault.{WordFault}
 
 abbrev pub kind_of : Reason → AsmKind
 kind_of why.NotTheHeader = kinds.Header
@@ -43,10 +44,15 @@ abbrev pub by_kind : {X : Type 0} → Result X Reason → Result X AsmKind
 by_kind (Ok x) = Ok x
 by_kind (Err r) = Err (kind_of r)
 
+-- an answer without the number of the word at fault
+abbrev pub by_reason : {X : Type 0} → Result X WordFault → Result X Reason
+by_reason (Ok x) = Ok x
+by_reason (Err f) = Err f.reason
+
 -- the word that an answer lends
-abbrev pub seen_word : Result (Bor (List ℕ)) Reason → Result (List ℕ) AsmKind
+abbrev pub seen_word : Result (Bor (List ℕ)) WordFault → Result (List ℕ) AsmKind
 seen_word (Ok w) = Ok w.now
-seen_word (Err r) = Err (kind_of r)
+seen_word (Err f) = Err (kind_of f.reason)
 
 -- the answer, seen so, is what was given, unless there was no memory
 abbrev pub Gives : {X Y : Type 0} → (X → Y) → Result X Reason → Result Y AsmKind → Type 0

@@ -12,6 +12,7 @@ use crate::faults::{AsmKind, Reason};
 use crate::name_table::NameTable;
 use crate::numbers::number_in;
 use crate::shown::WordStart;
+use crate::word_fault::WordFault;
 use zy_isa::{Actor, Choice, MAX_CHOICES, Node};
 use zy_text::names::{is, is_name, is_numeral};
 use zy_text::numbers::number_of;
@@ -151,13 +152,14 @@ pub fn are_times(words: &[&[u8]]) -> bool
     }
 }
 
-/// Why such words are neither `x` and another one nor none.
-pub fn not_times(words: &[&[u8]]) -> Reason
-    ensures { kind_of result ≡ AsmKind.Word }
+/// Why such words, of which the first has this number in its line, are neither `x` and another one nor none.
+pub fn not_times(at: usize, words: &[&[u8]]) -> WordFault
+    ensures { kind_of result.reason ≡ AsmKind.Word }
 {
     match words {
-        [word, _] => Reason::NotKnown(WordStart::of(word)),
-        _ => Reason::WordCount,
+        [word, _] => Reason::NotKnown(WordStart::of(word)).at(at),
+        [x, _, _, ..] if is(x, b"x") => Reason::WordCount.at(at.saturating_add(2)),
+        _ => Reason::WordCount.at(at),
     }
 }
 

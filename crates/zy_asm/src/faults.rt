@@ -3,6 +3,7 @@ ghost use Rattle.std.specs.Prelude.{◌≡◌};
 ghost use Rattle.zy_asm.specs.Reasons.{kind_of, fault_of};
 
 use crate::shown::WordStart;
+use crate::state::LinesAbove;
 use std::fmt;
 use thiserror::Error;
 use zy_isa::ProgramFault;
@@ -267,11 +268,21 @@ fn tell_target<W: fmt::Write>(f: &mut fmt::Formatter<W>, number: usize, at: u8) 
 }
 
 /// The first faulty line, from 1, and what is wrong with it.
-#[derive(Clone, Copy, Debug, Error)]
+#[derive(Clone, Copy, Error)]
 #[error("Input(line {line}, {:?}): {reason}", .reason.kind())]
 pub struct LineFault {
     pub line: usize,
+    /// The number of the word at fault, from 0; 0 where it is no word of this line.
+    pub at: usize,
     pub reason: Reason,
+    pub above: LinesAbove,
+}
+
+/// The words that `Display` writes.
+impl fmt::Debug for LineFault {
+    fn fmt<W: fmt::Write>(&self, f: &mut fmt::Formatter<W>) -> fmt::Result {
+        fmt::Display::fmt(self, f)
+    }
 }
 
 impl LineFault {

@@ -1,6 +1,6 @@
 //! The instruction of a line.
 ghost use Rattle.std.specs.Prelude.{◌≡◌, ◌∷◌, [], Ok, IfSome, ok_or};
-ghost use Rattle.zy_asm.specs.Reasons.{by_kind, kind_of, Gives};
+ghost use Rattle.zy_asm.specs.Reasons.{by_kind, by_reason, kind_of, Gives};
 ghost use Rattle.zy_text.specs.Lines.{texts};
 ghost use Rattle.zy_asm.specs.Pending.{pending_of, whole};
 ghost use Rattle.zy_asm.specs.Instructions as spec;
@@ -9,6 +9,7 @@ use crate::faults::{AsmKind, Reason};
 use crate::numbers::{number_in, within};
 use crate::pending::Unresolved;
 use crate::shown::WordStart;
+use crate::word_fault::{WordFault, miscounted};
 use std::alloc::Global;
 use zy_isa::{Instr, JumpOperation, NumberOperation, Operation, Parts, Reg};
 use zy_text::names::is_name;
@@ -40,13 +41,13 @@ fn two(a: &[u8], b: &[u8]) -> Option<(Reg, Reg)>
     Some((first, second))
 }
 
-/// Why two words do not name two registers.
-fn not_two(a: &[u8], b: &[u8]) -> Reason
-    ensures { kind_of result ≡ AsmKind.Word }
+/// Why the two words behind an operation do not name two registers.
+fn not_two(a: &[u8], b: &[u8]) -> WordFault
+    ensures { kind_of result.reason ≡ AsmKind.Word }
 {
     match register_of(a) {
-        Some(_) => Reason::NotKnown(WordStart::of(b)),
-        None => Reason::NotKnown(WordStart::of(a)),
+        Some(_) => Reason::NotKnown(WordStart::of(b)).at(2),
+        None => Reason::NotKnown(WordStart::of(a)).at(1),
     }
 }
 
@@ -61,12 +62,12 @@ fn pair_of(words: &[&[u8]]) -> Option<(Reg, Reg)>
 }
 
 /// Why words are not two registers.
-fn not_pair(words: &[&[u8]]) -> Reason
-    ensures { kind_of result ≡ AsmKind.Word }
+fn not_pair(words: &[&[u8]]) -> WordFault
+    ensures { kind_of result.reason ≡ AsmKind.Word }
 {
     match words {
         [a, b] => not_two(a, b),
-        _ => Reason::WordCount,
+        _ => miscounted(words, 2),
     }
 }
 
@@ -99,23 +100,23 @@ fn jump_to(
 }
 
 /// An operation with the register and the number that two words name.
-fn number_to(operation: NumberOperation, a: &[u8], number: &[u8]) -> Result<Instr, Reason>
-    ensures { by_kind result ≡ spec.number_to operation a.now number.now }
+fn number_to(operation: NumberOperation, a: &[u8], number: &[u8]) -> Result<Instr, WordFault>
+    ensures { by_kind (by_reason result) ≡ spec.number_to operation a.now number.now }
 {
     let Some(register) = register_of(a) else {
-        return Err(Reason::NotKnown(WordStart::of(a)));
+        return Err(Reason::NotKnown(WordStart::of(a)).at(1));
     };
-    let number = number_in(number, 0, u64::from(u32::MAX))? as u32;
+    let number = number_in(number, 0, u64::from(u32::MAX)).map_err(|reason| reason.at(2))? as u32;
     Ok(Parts::Number(operation, register, number).instr())
 }
 
 /// An operation with the register and the number that the words behind it name.
-fn with_number(operation: NumberOperation, words: &[&[u8]]) -> Result<Instr, Reason>
-    ensures { by_kind result ≡ spec.with_number operation (texts words.now) }
+fn with_number(operation: NumberOperation, words: &[&[u8]]) -> Result<Instr, WordFault>
+    ensures { by_kind (by_reason result) ≡ spec.with_number operation (texts words.now) }
 {
     match words {
         [a, number] => number_to(operation, a, number),
-        _ => Err(Reason::WordCount),
+        _ => Err(miscounted(words, 2)),
     }
 }
 
@@ -126,11 +127,11 @@ fn jump_where(
     a: &[u8],
     b: &[u8],
     target: &[u8],
-) -> Result<Unresolved, Reason>
-    ensures { Gives pending_of result (spec.jump_where operation a.now b.now target.now) }
+) -> Result<Unresolved, WordFault>
+    ensures { Gives pending_of (by_reason result) (spec.jump_where operation a.now b.now target.now) }
 {
     match two(a, b) {
-        Some((a, b)) => jump_to(alloc, operation, a, b, target),
+        Some((a, b)) => { jump_to(alloc, operation, a, b, target).map_err(|reason| reason.at(3)) }
         None => Err(not_two(a, b)),
     }
 }
@@ -140,23 +141,23 @@ fn with_target(
     alloc: Global,
     operation: JumpOperation,
     words: &[&[u8]],
-) -> Result<Unresolved, Reason>
-    ensures { Gives pending_of result (spec.with_target operation (texts words.now)) }
+) -> Result<Unresolved, WordFault>
+    ensures { Gives pending_of (by_reason result) (spec.with_target operation (texts words.now)) }
 {
     match words {
         [a, b, target] => jump_where(alloc, operation, a, b, target),
-        _ => Err(Reason::WordCount),
+        _ => Err(miscounted(words, 3)),
     }
 }
 
 /// An instruction of one word, where none follows.
-fn alone(words: &[&[u8]], instr: Instr) -> Result<Instr, Reason>
-    ensures { by_kind result ≡ spec.alone (texts words.now) instr }
+fn alone(words: &[&[u8]], instr: Instr) -> Result<Instr, WordFault>
+    ensures { by_kind (by_reason result) ≡ spec.alone (texts words.now) instr }
 {
     if words.is_empty() {
         Ok(instr)
     } else {
-        Err(Reason::WordCount)
+        Err(Reason::WordCount.at(1))
     }
 }
 
@@ -180,9 +181,13 @@ pub fn whole_of(operation: Operation, a: &[u8], b: &[u8]) -> Option<Instr>
     }
 }
 
-/// The instruction of an operation with the words behind it. A label takes memory.
-pub fn instr_of(alloc: Global, operation: Operation, words: &[&[u8]]) -> Result<Unresolved, Reason>
-    ensures { Gives pending_of result (spec.instr_of operation (texts words.now)) }
+/// The instruction of an operation with the words behind it. A label takes memory. A fault counts words from the operation.
+pub fn instr_of(
+    alloc: Global,
+    operation: Operation,
+    words: &[&[u8]],
+) -> Result<Unresolved, WordFault>
+    ensures { Gives pending_of (by_reason result) (spec.instr_of operation (texts words.now)) }
 {
     let instr = match operation {
         Operation::Number(operation) => with_number(operation, words)?,

@@ -13,5 +13,7 @@ mod reading;
 pub mod shown;
 mod state;
 pub mod text;
+mod word_fault;
 
 pub use crate::faults::{AsmKind, LineFault, Reason};
+pub use crate::state::{LinesAbove, Stage};

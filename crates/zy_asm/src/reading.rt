@@ -20,6 +20,7 @@ use crate::pending::Unresolved;
 use crate::reading::keyword::{Keyword, keyword_of};
 use crate::shown::WordStart;
 use crate::state::{Reader, Stage};
+use crate::word_fault::WordFault;
 use std::alloc::Global;
 use zy_isa::{Rule, Version};
 use zy_text::Words;
@@ -28,12 +29,12 @@ use zy_text::names::label_of;
 
 impl Reader {
     /// Takes a line below the header, whose first word is this keyword.
-    fn statement(&mut self, keyword: Keyword, words: &[&[u8]]) -> Result<(), Reason>
+    fn statement(&mut self, keyword: Keyword, words: &[&[u8]]) -> Result<(), WordFault>
         ensures { Steps result (progress_of self.new) (statement (Some keyword) (progress_of self.old)
             (texts words.now)) }
     {
         match keyword {
-            Keyword::Header => Err(Reason::Misplaced),
+            Keyword::Header => Err(Reason::Misplaced.at(0)),
             Keyword::Row => self.row_line(words),
             Keyword::Txn => self.txn_line(words),
             Keyword::Instr(operation) => self.program_line(operation, words),
@@ -49,24 +50,24 @@ impl Reader {
     }
 
     /// Takes a line below the header: one that a label begins, or one by its keyword.
-    fn body_line(&mut self, words: &[&[u8]]) -> Result<(), Reason>
+    fn body_line(&mut self, words: &[&[u8]]) -> Result<(), WordFault>
         ensures { Steps result (progress_of self.new) (body_line (progress_of self.old) (texts words.now)) }
     {
         let Some((first, rest)) = words.split_first() else {
-            return Err(Reason::WordCount);
+            return Err(Reason::WordCount.at(0));
         };
         if let Some(label) = label_of(first) {
             return self.label_line(label, rest);
         }
         match keyword_of(self.version, first) {
             Some(keyword) => self.statement(keyword, rest),
-            None => Err(Reason::NotKnown(WordStart::of(first))),
+            None => Err(Reason::NotKnown(WordStart::of(first)).at(0)),
         }
     }
 
     /// Takes a line with words.
     #[inline(never)]
-    fn worded_line(&mut self, words: &[&[u8]]) -> Result<(), Reason>
+    fn worded_line(&mut self, words: &[&[u8]]) -> Result<(), WordFault>
         ensures { Steps result (progress_of self.new) (step (progress_of self.old) (texts words.now)) }
     {
         match self.stage {
@@ -74,14 +75,14 @@ impl Reader {
             Stage::Cap => self.cap_line(words),
             Stage::Pages => self.pages_line(words),
             Stage::Rule => self.rule_line(words),
-            Stage::Done => Err(Reason::BelowEnd),
+            Stage::Done => Err(Reason::BelowEnd.at(0)),
             _ => self.body_line(words),
         }
     }
 
     /// Takes a line.
     #[inline(always)]
-    fn line(&mut self, words: &[&[u8]]) -> Result<(), Reason>
+    fn line(&mut self, words: &[&[u8]]) -> Result<(), WordFault>
         ensures { Steps result (progress_of self.new) (line_step (progress_of self.old) (texts words.now)) }
     {
         if let [first, second, third] = words {
@@ -99,7 +100,11 @@ impl Reader {
     }
 
     /// Takes a text's first line, and gives what is below it.
-    fn take<'a>(&mut self, words: &mut Words<'a>, text: &'a [u8]) -> (Result<(), Reason>, &'a [u8])
+    fn take<'a>(
+        &mut self,
+        words: &mut Words<'a>,
+        text: &'a [u8],
+    ) -> (Result<(), WordFault>, &'a [u8])
         requires { 0 < length text.now }
         ensures step { Steps result.0 (progress_of self.new)
             (line_step (progress_of self.old) (first_words (words_of (first_line text.entry.now)))) }
@@ -151,13 +156,23 @@ pub fn read(alloc: Global, text: &str) -> Result<Reader, LineFault>
         }
         let (outcome, below) = reader.take(&mut words, rest);
         rest = below;
-        if let Err(reason) = outcome {
-            return Err(LineFault { line, reason });
+        if let Err(fault) = outcome {
+            return Err(LineFault {
+                line,
+                at: fault.at,
+                reason: fault.reason,
+                above: reader.lines_above(),
+            });
         }
         line += 1;
     }
     match end_reached(reader.stage) {
         Ok(()) => Ok(reader),
-        Err(reason) => Err(LineFault { line, reason }),
+        Err(reason) => Err(LineFault {
+            line,
+            at: 0,
+            reason,
+            above: reader.lines_above(),
+        }),
     }
 }

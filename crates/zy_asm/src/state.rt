@@ -29,6 +29,28 @@ pub enum Stage {
     Done,
 }
 
+/// What the lines above a rejected one say.
+#[derive(Clone, Copy)]
+pub struct LinesAbove {
+    pub stage: Stage,
+    pub version: Version,
+    pub cap: u8,
+    /// How many programs begin.
+    pub programs: usize,
+}
+
+impl LinesAbove {
+    /// Nothing.
+    pub fn none() -> LinesAbove {
+        LinesAbove {
+            stage: Stage::Zephyr,
+            version: Version::One,
+            cap: 2,
+            programs: 0,
+        }
+    }
+}
+
 /// What the lines so far gave: until the header gives them, version and pages 1, cap 2 and rule `held`.
 /// The names are those of the programs, also of the open one; labels and instructions are those of the open program.
 #[derive(Drop)]
@@ -49,4 +71,20 @@ pub struct Reader {
     pub ghost few_programs: { open_programs stage + length programs.items ≤ max_txns },
     pub ghost few_instrs: { length instrs.items ≤ max_instrs },
     pub ghost few_choices: { length choices.items ≤ max_choices },
+}
+
+impl Reader {
+    /// What the lines so far say.
+    pub fn lines_above(&self) -> LinesAbove {
+        let open = match self.stage {
+            Stage::Program => 1,
+            _ => 0,
+        };
+        LinesAbove {
+            stage: self.stage,
+            version: self.version,
+            cap: self.cap,
+            programs: self.programs.len() + open,
+        }
+    }
 }

@@ -4,6 +4,7 @@ ghost use Rattle.zy_asm.specs.Input.{utf8_fault};
 ghost use Rattle.zy_asm.specs.Reasons.{fault_of};
 
 use crate::faults::{LineFault, Reason};
+use crate::state::LinesAbove;
 use std::str::from_utf8;
 
 /// How many lines end in these bytes.
@@ -24,7 +25,9 @@ pub fn text_of(bytes: &[u8]) -> Result<&str, LineFault>
             let (valid, _) = bytes.split_at(error.valid_up_to());
             Err(LineFault {
                 line: 1 + line_ends(valid),
+                at: 0,
                 reason: Reason::NotText,
+                above: LinesAbove::none(),
             })
         }
     }

@@ -2,10 +2,9 @@
 
 use crate::command::CommandName;
 use crate::header_statement::HeaderStatement;
-use crate::line_context::TextPart;
 use crate::text_advice::TextAdvice;
 use std::fmt;
-use zy_asm::Reason;
+use zy_asm::{Reason, Stage};
 use zy_source_words::Statement;
 use zy_source_words::line::is_line_feed;
 use zy_text::names::is;
@@ -72,7 +71,7 @@ impl TextAdvice<'_> {
 
     /// Says that the text goes on below its end, and where it ends.
     fn tell_end<W: fmt::Write>(&self, f: &mut fmt::Formatter<W>) -> fmt::Result {
-        match self.context.end {
+        match self.line_of(&["end"]) {
             Some(line) => write!(f, "{}, which is line {line}", self.reason),
             None => fmt::Display::fmt(&self.reason, f),
         }
@@ -80,23 +79,19 @@ impl TextAdvice<'_> {
 
     /// Says what should follow where the text stops.
     pub(crate) fn tell_no_end<W: fmt::Write>(&self, f: &mut fmt::Formatter<W>) -> fmt::Result {
-        let part = self.context.part();
+        let stage = self.above.stage;
         self.tell_reason(f)?;
         if self.input.is_empty() {
             return f.write_str("the input is empty");
         }
-        match part {
-            TextPart::Header(_) => write!(
-                f,
-                "the next statement is {}",
-                HeaderStatement::of(part).pattern
-            ),
-            TextPart::Program => {
+        if let Some(next) = HeaderStatement::of(stage) {
+            return write!(f, "the next statement is {}", next.pattern);
+        }
+        match stage {
+            Stage::Program => {
                 f.write_str("a program ends with commit or abort, and the text with end")
             }
-            TextPart::Choices(_) if self.command == CommandName::Order => {
-                f.write_str(END_ABOVE_LOGS)
-            }
+            Stage::Choices if self.command == CommandName::Order => { f.write_str(END_ABOVE_LOGS) }
             _ => f.write_str("write end as its last line"),
         }
     }

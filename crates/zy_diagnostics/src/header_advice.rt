@@ -34,7 +34,9 @@ fn other_format(input: &[u8]) -> Option<&'static str> {
 impl TextAdvice<'_> {
     /// Says what is wrong with a line of the header.
     pub(crate) fn tell_header<W: fmt::Write>(&self, f: &mut fmt::Formatter<W>) -> fmt::Result {
-        let statement = HeaderStatement::of(self.context.part());
+        let Some(statement) = HeaderStatement::of(self.above.stage) else {
+            return fmt::Display::fmt(&self.reason, f);
+        };
         if let Some(told) = self.wrong_bytes() {
             f.write_str(told)
         } else if !statement.begins(self.statement) {

@@ -1,6 +1,6 @@
 //! The statements of the header.
 
-use crate::line_context::TextPart;
+use zy_asm::Stage;
 use zy_source_words::Statement;
 use zy_text::names::is;
 
@@ -56,13 +56,14 @@ const RULE: HeaderStatement = HeaderStatement {
 };
 
 impl HeaderStatement {
-    /// The next one in a part of the text; the last one below the header.
-    pub fn of(part: TextPart) -> HeaderStatement {
-        match part {
-            TextPart::Header(0) => VERSION,
-            TextPart::Header(1) => CAP,
-            TextPart::Header(2) => PAGES,
-            _ => RULE,
+    /// The next one, if the header goes on.
+    pub fn of(stage: Stage) -> Option<HeaderStatement> {
+        match stage {
+            Stage::Zephyr => Some(VERSION),
+            Stage::Cap => Some(CAP),
+            Stage::Pages => Some(PAGES),
+            Stage::Rule => Some(RULE),
+            _ => None,
         }
     }
 

@@ -5,13 +5,11 @@
 
 mod bad_command;
 mod command;
-mod culprit;
 mod end_advice;
 mod header_advice;
 mod header_statement;
 mod image_advice;
 mod instruction_words;
-mod line_context;
 mod program_advice;
 mod statement_form;
 mod statement_order;

@@ -10,12 +10,12 @@ use zy_source_words::{Quoted, SourceProgram};
 impl<'a> TextAdvice<'a> {
     /// The last program that begins above the line.
     pub(crate) fn program(&self) -> Option<SourceProgram<'a>> {
-        SourceProgram::of(self.lines, self.context.programs.saturating_sub(1))
+        SourceProgram::of(self.lines, self.above.programs.saturating_sub(1))
     }
 
     /// Says which programs there are.
     pub(crate) fn tell_programs<W: fmt::Write>(&self, f: &mut fmt::Formatter<W>) -> fmt::Result {
-        match (self.context.programs, self.program()) {
+        match (self.above.programs, self.program()) {
             (0, _) => f.write_str("no program is above"),
             (1, Some(program)) => write!(f, "the only one is {program}"),
             (count, _) => write!(f, "the programs are 0 to {}", count.saturating_sub(1)),

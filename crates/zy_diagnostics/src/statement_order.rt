@@ -1,7 +1,6 @@
 //! Advice on the order of statements and on their number.
 
 use crate::header_statement::begins_as_header;
-use crate::line_context::TextPart;
 use crate::text_advice::TextAdvice;
 use std::fmt;
 use zy_text::names::is;
@@ -31,16 +30,15 @@ impl TextAdvice<'_> {
             )
         };
         f.write_str(allowed)?;
-        match self.context.part() {
-            TextPart::Choices(line) => write!(f, "{above}, which is line {line}"),
-            _ => f.write_str(", below its line txn T"),
+        match self.line_of(&["A", "B", "C"]) {
+            Some(line) => write!(f, "{above}, which is line {line}"),
+            None => f.write_str(", below its line txn T"),
         }
     }
 
     /// Says that the rows need too many pages.
     pub(crate) fn tell_page_count<W: fmt::Write>(&self, f: &mut fmt::Formatter<W>) -> fmt::Result {
-        let cap = self.context.cap;
-        let rows = cap.saturating_add(1) / 2;
+        let rows = self.above.cap.saturating_add(1) / 2;
         write!(
             f,
             "{}: a page opens with (cap + 1) / 2 rows, here {rows}: raise pages or cap",

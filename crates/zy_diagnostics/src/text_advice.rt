@@ -1,18 +1,17 @@
 //! Advice on a rejected text.
 
 use crate::command::{CommandName, ForImage};
-use crate::culprit::culprit;
 use crate::image_advice::is_image;
-use crate::line_context::LineContext;
 use crate::statement_form::StatementForm;
 use crate::statement_order::tell_not_above;
 use crate::unknown_word::UnknownWord;
 use std::fmt;
 use std::str::from_utf8;
-use zy_asm::{LineFault, Reason};
+use zy_asm::{LineFault, LinesAbove, Reason};
 use zy_isa::ProgramFault;
 use zy_source_words::label::operation_at;
-use zy_source_words::line::{SourceLine, SourceWord, Statement, lines_above};
+use zy_source_words::line::{SourceLine, SourceWord, Statement, is_line_feed, lines_above};
+use zy_source_words::nearest_word::is_one_of;
 use zy_source_words::{MarkedWord, Position};
 
 /// Why a command rejects a text: what is wrong, what to write, and where.
@@ -21,9 +20,12 @@ pub struct TextAdvice<'a> {
     pub(crate) command: CommandName,
     pub(crate) input: &'a [u8],
     pub(crate) reason: Reason,
+    /// The number of the word at fault in its line.
+    pub(crate) at: usize,
     /// The lines above the rejected one.
     pub(crate) lines: &'a [u8],
-    pub(crate) context: LineContext,
+    /// What they say.
+    pub(crate) above: LinesAbove,
     pub(crate) line: SourceLine<'a>,
     pub(crate) statement: Statement<'a>,
 }
@@ -37,8 +39,9 @@ impl<'a> TextAdvice<'a> {
             command,
             input,
             reason: refusal.reason,
+            at: refusal.at,
             lines,
-            context: LineContext::of(lines),
+            above: refusal.above,
             line,
             statement: line.statement(),
         }
@@ -73,17 +76,22 @@ impl fmt::Display for TextAdvice<'_> {
 impl<'a> TextAdvice<'a> {
     /// The form of the line, if its first words are known.
     pub(crate) fn form(&self) -> Option<StatementForm<'a>> {
-        StatementForm::of(self.context.version, self.statement)
-    }
-
-    /// The number of the word at fault in its line.
-    pub(crate) fn culprit(&self) -> usize {
-        culprit(self.statement, self.context, self.reason)
+        StatementForm::of(self.above.version, self.statement)
     }
 
     /// The word at fault.
     pub(crate) fn word(&self) -> &'a [u8] {
-        self.statement.text(self.culprit())
+        self.statement.text(self.at)
+    }
+
+    /// The number of the first line above that begins with one of these words.
+    pub(crate) fn line_of(&self, words: &[&str]) -> Option<usize> {
+        for (index, line) in self.lines.split(is_line_feed).enumerate() {
+            if is_one_of(Statement::of(line).text(0), words) {
+                return Some(index.saturating_add(1));
+            }
+        }
+        None
     }
 
     /// Says what the reader found, before what to write.
@@ -115,8 +123,8 @@ impl<'a> TextAdvice<'a> {
     fn tell_not_known<W: fmt::Write>(&self, f: &mut fmt::Formatter<W>) -> fmt::Result {
         let unknown = UnknownWord {
             statement: self.statement,
-            at: self.culprit(),
-            context: self.context,
+            at: self.at,
+            above: self.above,
         };
         unknown.tell(f)
     }
@@ -150,7 +158,7 @@ impl<'a> TextAdvice<'a> {
                 target_of(line)
             }
             Reason::NoProgram { fault, .. } => self.place_in_program(fault),
-            _ => MarkedWord::word(self.line, self.culprit()),
+            _ => MarkedWord::word(self.line, self.at),
         }
     }
 

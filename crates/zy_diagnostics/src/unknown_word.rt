@@ -1,10 +1,10 @@
 //! Advice on an unknown word.
 
 use crate::instruction_words::{INSTRUCTIONS, is_instruction, show_instructions, show_near};
-use crate::line_context::{LineContext, TextPart};
 use crate::statement_form::{CLIENT_ACTIONS, NODE_ACTIONS, Shape, StatementForm};
 use crate::word_advice::tell_commas;
 use std::fmt;
+use zy_asm::{LinesAbove, Stage};
 use zy_source_words::nearest_word::{is_one_of, show_nearest};
 use zy_source_words::{Bytes, NearestWord, Negative, Quoted, Statement};
 use zy_text::names::is;
@@ -18,13 +18,13 @@ const OTHERS: [&'static str; 7] = ["row", "txn", "end", "zephyr", "cap", "pages"
 pub struct UnknownWord<'a> {
     pub statement: Statement<'a>,
     pub at: usize,
-    pub context: LineContext,
+    pub above: LinesAbove,
 }
 
 impl<'a> UnknownWord<'a> {
     /// Says what is wrong, and what to write.
     pub fn tell<W: fmt::Write>(&self, f: &mut fmt::Formatter<W>) -> fmt::Result {
-        match StatementForm::of(self.context.version, self.statement) {
+        match StatementForm::of(self.above.version, self.statement) {
             Some(form) => self.tell_behind(f, form),
             None => self.tell_first(f),
         }
@@ -120,8 +120,8 @@ impl<'a> UnknownWord<'a> {
             return f.write_str(told);
         }
         match NearestWord::of(word, &INSTRUCTIONS).or(NearestWord::of(word, &OTHERS)) {
-            Some(nearest) => show_near(f, self.context.version, nearest),
-            None => tell_statements(f, self.context),
+            Some(nearest) => show_near(f, self.above.version, nearest),
+            None => tell_statements(f, self.above),
         }
     }
 }
@@ -229,13 +229,13 @@ fn tell_action_of_node<W: fmt::Write>(
 }
 
 /// Says which words a line here may begin with.
-fn tell_statements<W: fmt::Write>(f: &mut fmt::Formatter<W>, context: LineContext) -> fmt::Result {
-    match context.part() {
-        TextPart::Choices(_) => f.write_str(
+fn tell_statements<W: fmt::Write>(f: &mut fmt::Formatter<W>, above: LinesAbove) -> fmt::Result {
+    match above.stage {
+        Stage::Choices => f.write_str(
             "below the first choice come choices, of A, B and C, and end",
         ),
-        TextPart::Program => {
-            show_instructions(f, context.version)?;
+        Stage::Program => {
+            show_instructions(f, above.version)?;
             f.write_str("; below the program come txn, the choices of A, B and C, and end")
         }
         _ => f.write_str("below the header come row, txn, the choices of A, B and C, and end"),

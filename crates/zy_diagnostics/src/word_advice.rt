@@ -2,7 +2,6 @@
 
 use crate::header_statement::HeaderStatement;
 use crate::instruction_words::{INSTRUCTIONS, is_instruction, show_instructions, show_near};
-use crate::line_context::TextPart;
 use crate::statement_form::{Shape, StatementForm};
 use crate::text_advice::TextAdvice;
 use crate::unknown_word::{begins_other_comment, tell_subtraction};
@@ -19,7 +18,7 @@ impl TextAdvice<'_> {
     /// Says what to write in place of a word that is not a name.
     pub(crate) fn tell_no_name<W: fmt::Write>(&self, f: &mut fmt::Formatter<W>) -> fmt::Result {
         match self.form() {
-            Some(form) if matches!(form.shape, Shape::Jump) && self.culprit() > form.at => {
+            Some(form) if matches!(form.shape, Shape::Jump) && self.at > form.at => {
                 tell_target(f, self.word())
             }
             _ => self.tell_bad_name(f, self.word()),
@@ -63,9 +62,9 @@ impl TextAdvice<'_> {
         word: &[u8],
     ) -> fmt::Result {
         match NearestWord::of(word, &INSTRUCTIONS) {
-            Some(nearest) => show_near(f, self.context.version, nearest),
+            Some(nearest) => show_near(f, self.above.version, nearest),
             None if label_of(word).is_some() => f.write_str("a line has one label"),
-            None => show_instructions(f, self.context.version),
+            None => show_instructions(f, self.above.version),
         }
     }
 
@@ -73,7 +72,7 @@ impl TextAdvice<'_> {
     pub(crate) fn tell_count<W: fmt::Write>(&self, f: &mut fmt::Formatter<W>) -> fmt::Result {
         match self.form() {
             Some(_) if begins_other_comment(self.word()) => f.write_str("a comment begins with ;"),
-            Some(form) if form.is_choice() && self.culprit() >= form.words() => {
+            Some(form) if form.is_choice() && self.at >= form.words() => {
                 self.tell_times(f, form)
             }
             Some(form) => {
@@ -99,7 +98,7 @@ impl TextAdvice<'_> {
             )
         } else if is(word, b"x") {
             form.tell(f, "behind x comes how often")
-        } else if self.culprit() > form.words() {
+        } else if self.at > form.words() {
             form.tell(f, "nothing comes behind x N")
         } else {
             fmt::Display::fmt(&form, f)
@@ -108,12 +107,11 @@ impl TextAdvice<'_> {
 
     /// Says how to write a statement in which a word is not a number in its range.
     pub(crate) fn tell_number<W: fmt::Write>(&self, f: &mut fmt::Formatter<W>) -> fmt::Result {
-        let part = self.context.part();
         self.tell_reason(f)?;
-        match (part, self.form()) {
-            (TextPart::Header(_), _) => f.write_str(HeaderStatement::of(part).pattern),
-            (_, Some(form)) => self.tell_value(f, form),
-            (_, None) => Ok(()),
+        match (HeaderStatement::of(self.above.stage), self.form()) {
+            (Some(statement), _) => f.write_str(statement.pattern),
+            (None, Some(form)) => self.tell_value(f, form),
+            (None, None) => Ok(()),
         }
     }
 
@@ -125,9 +123,7 @@ impl TextAdvice<'_> {
     ) -> fmt::Result {
         fmt::Display::fmt(&form.pattern(), f)?;
         match Negative::of(self.word()) {
-            Some(negative) if form.has_value_at(self.culprit()) => {
-                write!(f, ", here {negative}")
-            }
+            Some(negative) if form.has_value_at(self.at) => { write!(f, ", here {negative}") }
             _ => Ok(()),
         }
     }

@@ -8,7 +8,7 @@ use Rattle.zy_isa.specs.declared.choice.Choice.{Choice}
 use Rattle.zy_isa.specs.declared.version.Version.{Version}
 use Rattle.zy_asm.specs.declared.faults.AsmKind.{AsmKind}
 use Rattle.zy_asm.specs.declared.faults.AsmKind.TheVariants as kinds
-use Rattle.zy_asm.specs.declared.faults.Reason.{Reason}
+use Rattle.zy_asm.specs.declared.word_fault.WordFault.{WordFault}
 use Rattle.zy_asm.specs.Reasons.{kind_of}
 use Rattle.zy_asm.specs.declared.state.Stage.{Stage}
 use Rattle.zy_asm.specs.declared.state.Reader.{Reader}
@@ -45,6 +45,6 @@ progress_of r = record {
 }
 
 -- a call did the step, unless there was no memory
-abbrev pub Steps : Result (Unit {0}) Reason → Seen → Result Seen AsmKind → Type 0
+abbrev pub Steps : Result (Unit {0}) WordFault → Seen → Result Seen AsmKind → Type 0
 Steps (Ok x) new read = read ≡ Ok new
-Steps (Err r) new read = (kind_of r ≡ kinds.Memory) ⊎ (read ≡ Err (kind_of r))
+Steps (Err f) new read = (kind_of f.reason ≡ kinds.Memory) ⊎ (read ≡ Err (kind_of f.reason))

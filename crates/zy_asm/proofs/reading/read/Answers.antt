@@ -47,7 +47,7 @@ returns-in-Err c =
       | inl e ↦ inl e
       | inr e ↦
           inr (fault_at (progress_of c.take_usual.new.self) c.loop-words.line (lines_of rest) (lines_of c.take-outcome.result.1.now)
-          (first_line rest) (kind_of c.in-Err.reason) (reading c.args.text.now)
+          (first_line rest) (kind_of c.in-Err.fault.reason) (reading c.args.text.now)
           (ap (λ s. read_lines s c.loop-words.line (lines_of rest)) before ∙ c.loop-words.invariant.same)
           (line_taken rest c.take-outcome.result.1.now some c.take-outcome.ensures.below)
           e)
