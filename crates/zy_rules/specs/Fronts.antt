@@ -9,7 +9,7 @@ use Rattle.zy_node.specs.declared.node_store.NodeStore.{NodeStore}
 use Rattle.zy_node.specs.Nodes.{with_node}
 use Rattle.zy_node.specs.Mail.{Mail}
 use Rattle.zy_table.specs.declared.answer.Answer.{Answer}
-use Rattle.zy_table.specs.Answers.{Makes}
+use Rattle.zy_rules.specs.Parts.{MakesLine}
 use Rattle.zy_rules.specs.Memory.{SendNeedsNone}
 use Rattle.zy_rules.specs.declared.take.Front.{Front}
 use Rattle.zy_rules.specs.declared.take.Front.TheVariants.{Nothing, Asks, Brings}
@@ -18,9 +18,9 @@ use Rattle.zy_rules.specs.declared.take.Front.TheVariants.{Nothing, Asks, Brings
 abbrev pub meets : NodeStore → Mail → View → View
 meets x inbox v = with_node x (record v { inbox = inbox.messages })
 
--- a call on a node and the link to it made a line, whatever the rest of the state
+-- a call on a node and the link to it made a line, whatever the rest of the state, and kept the limits of both
 abbrev pub Takes : {E : Type 0} → NodeStore → Mail → NodeStore → Mail → Result Answer E → (View → Move) → Type 0
-Takes x i x1 i1 result step = (v : View) → Makes (meets x i v) (meets x1 i1 v) result (step (meets x i v))
+Takes x i x1 i1 result step = (i1.pages ≡ i.pages) × MakesLine x x1 (meets x i) (meets x1 i1) result step
 
 -- a call on a node and the link to it is not out of memory, if the line needs none
 abbrev pub TakesInRoom : {E : Type 0} → NodeStore → Mail → Result Answer E → (View → Move) → Type 0

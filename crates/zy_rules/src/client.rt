@@ -6,7 +6,7 @@ ghost use Rattle.zy_node.specs.Wireframes.{lows_in};
 ghost use Rattle.zy_table.specs.State.{View};
 ghost use Rattle.zy_table.specs.Client as client;
 ghost use Rattle.zy_txns.specs.Books.{with_book};
-ghost use Rattle.zy_rules.specs.Parts.{here};
+ghost use Rattle.zy_rules.specs.Parts.{Does, MakesLine};
 ghost use Rattle.zy_table.specs.Answers.{move_of, Makes};
 ghost use Rattle.zy_rules.specs.Sides.{beside};
 
@@ -25,10 +25,8 @@ use zy_txns::Book;
 pub fn start_step(alloc: Global, me: &mut NodeStore, them: &NodeStore) -> Result<Answer, AllocError>
     requires some { may_start me.old.mode them.now.mode ≡ true → 0 < length (lows_in me.old.wire) }
     requires limited { IsLimited me.old.outbox.pages me.old }
-    ensures line { (v : View) → Makes (beside me.old them.now v) (beside me.new them.now v) result
-        (client.start_step (beside me.old them.now v)) }
+    ensures line { MakesLine me.old me.new (beside me.old them.now) (beside me.new them.now) result client.start_step }
     ensures memory { may_start me.old.mode them.now.mode ≡ false → IsOk result }
-    ensures limits { limits_of me.new ≡ limits_of me.old }
 {
     if !me.mode.may_start(them.mode) {
         return Ok(Answer::quiet(Outcome::BadMode));
@@ -65,8 +63,7 @@ pub fn begin_step(me: &NodeStore, them: &NodeStore, book: &mut Book, t: u8) -> A
 #[tactic(auto, unfolding(zy_table::specs::Client::kill_step, zy_table::specs::Run::abort_step, zy_table::specs::Change::txn_at))]
 pub fn kill_step(me: &mut NodeStore, book: &mut Book, t: u8) -> Answer
     requires { t < length book.old.txns }
-    ensures line { (v : View) → move_of result (here me.new book.new v) ≡ client.kill_step t (here me.old book.old v) }
-    ensures limits { limits_of me.new ≡ limits_of me.old }
+    ensures { Does me.old book.old me.new book.new result (client.kill_step t) }
 {
     if !book.txn(t).is_active() {
         return Answer::quiet(Outcome::Idle);

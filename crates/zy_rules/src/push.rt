@@ -7,7 +7,7 @@ ghost use Rattle.zy_table.specs.State.{View};
 ghost use Rattle.zy_table.specs.Push as push;
 ghost use Rattle.zy_node.specs.Nodes.{node_shown, limits_of, with_node};
 ghost use Rattle.zy_rules.specs.Memory.{SendNeedsNone};
-ghost use Rattle.zy_rules.specs.Parts.{here};
+ghost use Rattle.zy_rules.specs.Parts.{here, MakesLine, Runs};
 ghost use Rattle.zy_table.specs.Answers.{Makes};
 
 use crate::take::leave;
@@ -23,10 +23,8 @@ use zy_txns::Book;
 /// `n push`.
 #[tactic(auto, unfolding(zy_table::specs::Push::push_step, zy_table::specs::Push::push_if, zy_table::specs::Change::leaves))]
 pub fn push_step(me: &mut NodeStore) -> Result<Answer, AllocError>
-    ensures line { (v : View) → Makes (with_node me.old v) (with_node me.new v) result
-        (push.push_step (with_node me.old v)) }
+    ensures line { MakesLine me.old me.new (with_node me.old) (with_node me.new) result push.push_step }
     ensures memory { (v : View) → SendNeedsNone me.old (push.push_step (with_node me.old v)) → IsOk result }
-    ensures limits { limits_of me.new ≡ limits_of me.old }
 {
     if !me.mode.may_push() {
         return Ok(Answer::quiet(Outcome::BadMode));
@@ -54,10 +52,8 @@ fn finish(me: &mut NodeStore)
 #[tactic(auto, unfolding(zy_table::specs::Push::finish_step, zy_table::specs::Push::finish_if))]
 pub fn finish_step(n: Node, me: &mut NodeStore, book: &Book) -> Result<Answer, AllocError>
     requires { length book.now.txns ≤ max_txns }
-    ensures line { (v : View) → Makes (here me.old book.now v) (here me.new book.now v) result
-        (push.finish_step n (here me.old book.now v)) }
+    ensures line { Runs me.old book.now me.new book.now result (push.finish_step n) }
     ensures memory { (v : View) → SendNeedsNone me.old (push.finish_step n (here me.old book.now v)) → IsOk result }
-    ensures limits { limits_of me.new ≡ limits_of me.old }
 {
     let lowest = book.lowest_active(n);
     match on_finish(me.mode, lowest.is_some()) {

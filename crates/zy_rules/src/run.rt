@@ -16,7 +16,7 @@ ghost use Rattle.zy_table.specs.Run as table;
 ghost use Rattle.zy_node.specs.Nodes.{node_shown, limits_of, IsFree};
 ghost use Rattle.zy_node.specs.Wireframes.{lows_in};
 ghost use Rattle.zy_txns.specs.Books.{txn_in, with_book, Countable};
-ghost use Rattle.zy_rules.specs.Parts.{here, Runs};
+ghost use Rattle.zy_rules.specs.Parts.{Does, Runs};
 ghost use Rattle.zy_table.specs.Answers.{move_of};
 ghost use Rattle.zy_rules.specs.Memory.{AbsentNeedsNone, CommitNeedsNone, EffectNeedsNone, InstrNeedsNone, IsUncut};
 ghost use Rattle.zy_rules.specs.Memory.{KeyNeedsNone, PageNeedsNone, PagesNeedNone, RunNeedsNone, SumNeedsNone};
@@ -47,7 +47,6 @@ pub fn run_step(
     requires { IsReady scenario.now n t me.old book.old }
     ensures line { Runs me.old book.old me.new book.new result (table.run_step scenario.now n t) }
     ensures memory { RunNeedsNone scenario.now t me.old book.old → IsOk result }
-    ensures limits { limits_of me.new ≡ limits_of me.old }
 {
     let txn = book.txn(t);
     if !txn.is_active() {
@@ -78,7 +77,6 @@ fn instr_step(
     ensures line { Runs me.old book.old me.new book.new result
         (λ v. table.instr_step scenario.now t (Some instr) (txn_at v t).regs v) }
     ensures memory { InstrNeedsNone scenario.now t instr (txn_in t book.old).regs me.old book.old → IsOk result }
-    ensures limits { limits_of me.new ≡ limits_of me.old }
 {
     with_effect!(instr, book.txn(t).regs(), |effect| {
         effect_step(scenario, alloc, me, book, t, effect)
@@ -99,7 +97,6 @@ fn effect_step(
     requires { MayStep scenario.now t me.old book.old }
     ensures line { Runs me.old book.old me.new book.new result (table.effect_step scenario.now t effect) }
     ensures memory { EffectNeedsNone scenario.now t effect me.old book.old → IsOk result }
-    ensures limits { limits_of me.new ≡ limits_of me.old }
 {
     match effect {
         Effect::Sets(r, value) => Ok(set_step(book, t, r, value)),
@@ -116,9 +113,7 @@ fn effect_step(
 #[tactic(auto, unfolding(zy_table::specs::Run::abort_step, zy_table::specs::Change::aborted, zy_table::specs::Change::txn_at))]
 pub fn abort_step(me: &mut NodeStore, book: &mut Book, t: u8, why: Why) -> Answer
     requires { t < length book.old.txns }
-    ensures line { (v : View) → move_of result (here me.new book.new v)
-        ≡ table.abort_step t why (here me.old book.old v) }
-    ensures limits { limits_of me.new ≡ limits_of me.old }
+    ensures line { Does me.old book.old me.new book.new result (table.abort_step t why) }
 {
     me.release(t);
     book.abort(t, why);
@@ -155,7 +150,6 @@ fn commit_step(me: &mut NodeStore, book: &mut Book, t: u8) -> Result<Answer, All
     requires room { Rooms t me.old book.old }
     ensures line { Runs me.old book.old me.new book.new result (table.commit_step t) }
     ensures memory { CommitNeedsNone t me.old book.old → IsOk result }
-    ensures limits { limits_of me.new ≡ limits_of me.old }
 {
     if let Some(p) = gone_page(me, book.txn(t).rows()) {
         return Ok(abort_step(me, book, t, Why::Gone(p)));
@@ -183,7 +177,6 @@ fn key_step(
     requires { MayAccess scenario.now t me.old book.old }
     ensures line { Runs me.old book.old me.new book.new result (table.key_step scenario.now t access key) }
     ensures memory { KeyNeedsNone scenario.now t access key me.old book.old → IsOk result }
-    ensures limits { limits_of me.new ≡ limits_of me.old }
 {
     let Ok(key) = u16::try_from(key) else {
         return Ok(abort_step(me, book, t, Why::BadKey));
@@ -207,7 +200,6 @@ fn range_step(
     requires { MaySum scenario.now t me.old book.old }
     ensures line { Runs me.old book.old me.new book.new result (table.range_step t r first last) }
     ensures memory { SumNeedsNone t first last me.old → IsOk result }
-    ensures limits { limits_of me.new ≡ limits_of me.old }
 {
     if last < first {
         return Ok(set_step(book, t, r, 0));
@@ -234,7 +226,6 @@ fn sum_or_asks(
     ensures line { Runs me.old book.old me.new book.new result
         (λ v. table.sum_or_asks t r first last (first_absent v.me.pages (range_pages v.me.lows first last)) v) }
     ensures memory { PagesNeedNone t first last me.old → IsOk result }
-    ensures limits { limits_of me.new ≡ limits_of me.old }
 {
     match me.absent_page(first, last) {
         Some(p) => absent_step(me, book, t, p),
@@ -258,7 +249,6 @@ fn sum_or_waits(
         (λ v. table.sum_or_waits t r first last (first_taken v.me.locks t (range_pages v.me.lows first last)) v) }
     ensures memory { let ps = range_pages (lows_in me.old.wire) first last in
         (first_taken me.old.locks.locks t ps ≡ None → HasPlaces ps t me.old.locks) → IsOk result }
-    ensures limits { limits_of me.new ≡ limits_of me.old }
 {
     if let Some(p) = me.taken_page(t, first, last) {
         return Ok(Answer::quiet(Outcome::Waits(p)));
@@ -273,10 +263,8 @@ fn sum_step(me: &mut NodeStore, book: &mut Book, t: u8, r: Reg, first: u16, last
     requires counts { Countable t book.old }
     requires rises { first ≤ last }
     requires pages { MayShare t first last me.old }
-    ensures line { (v : View) → move_of result (here me.new book.new v)
-        ≡ table.sum_step t r first last (shares t (range_pages (lows_in me.old.wire) first last)
-        (here me.old book.old v)) }
-    ensures limits { limits_of me.new ≡ limits_of me.old }
+    ensures line { Does me.old book.old me.new book.new result
+        (λ v. table.sum_step t r first last (shares t (range_pages (lows_in me.old.wire) first last) v)) }
 {
     let sum = sum(me, book.txn(t), first, last);
     me.share(t, first, last);
@@ -291,7 +279,6 @@ fn absent_step(me: &mut NodeStore, book: &mut Book, t: u8, p: u16) -> Result<Ans
     requires few { p < max_pages }
     ensures line { Runs me.old book.old me.new book.new result (table.absent_step t p) }
     ensures memory { AbsentNeedsNone p me.old → IsOk result }
-    ensures limits { limits_of me.new ≡ limits_of me.old }
 {
     if !me.mode.may_pull() {
         return Ok(abort_step(me, book, t, Why::Gone(p)));
@@ -319,7 +306,6 @@ fn read_step(
     requires free { IsFree at p t Shared me.old }
     ensures line { Runs me.old book.old me.new book.new result (λ v. table.read_step t r key p (locked t p Shared v)) }
     ensures memory { HasPlaces (p ∷ []) t me.old.locks → IsOk result }
-    ensures limits { limits_of me.new ≡ limits_of me.old }
 {
     me.reserve_lock(at, p, t)?;
     let value = value(me, book.txn(t), key, p);
@@ -345,7 +331,6 @@ fn write_step(
         (λ v. table.write_step t key value p (locked t p Exclusive v)) }
     ensures memory { let y = txn_in t book.old in (table.is_there key p (node_shown me.old) y ≡ false)
         ⊎ (HasPlaces (p ∷ []) t me.old.locks × IsSome (get_row y.rows key)) → IsOk result }
-    ensures limits { limits_of me.new ≡ limits_of me.old }
 {
     if !is_there(me, book.txn(t), key, p) {
         return Ok(abort_step(me, book, t, Why::Missing));
@@ -375,7 +360,6 @@ fn insert_step(
         (λ v. table.insert_step scenario.now t key value p (locked t p Exclusive v)) }
     ensures memory { let y = txn_in t book.old in (table.is_there key p (node_shown me.old) y ≡ true)
         ⊎ ((table.has_room scenario.now p (node_shown me.old) y ≡ false) × IsUncut scenario.now me.old) → IsOk result }
-    ensures limits { limits_of me.new ≡ limits_of me.old }
 {
     if is_there(me, book.txn(t), key, p) {
         return Ok(abort_step(me, book, t, Why::Duplicate));
@@ -405,7 +389,6 @@ fn full_step(
     ensures line { Runs me.old book.old me.new book.new result
         (λ v. table.full_step scenario.now t key p (locked t p Exclusive v)) }
     ensures memory { IsUncut scenario.now me.old → IsOk result }
-    ensures limits { limits_of me.new ≡ limits_of me.old }
 {
     if !me.mode.may_split() {
         return Ok(abort_step(me, book, t, Why::Frozen(p)));
@@ -430,9 +413,8 @@ fn split_step(
     requires full { IsFull scenario.now t key p at me.old book.now }
     requires normal { may_split me.old.mode ≡ true }
     requires more { length (lows_in me.old.wire) < scenario.now.pages }
-    ensures line { Runs me.old book.now me.new book.now result
+    ensures { Runs me.old book.now me.new book.now result
         (λ v. table.split_step scenario.now t key p (locked t p Exclusive v)) }
-    ensures limits { limits_of me.new ≡ limits_of me.old }
 {
     let new_page = page_count(&me.wire) as u16;
     let boundary = boundary(scenario, alloc, me, book.txn(t), p, key)?;
@@ -460,7 +442,6 @@ fn page_step(
     requires page { IsPageFor key p me.old }
     ensures line { Runs me.old book.old me.new book.new result (table.page_step scenario.now t access key p) }
     ensures memory { PageNeedsNone scenario.now t access key p me.old book.old → IsOk result }
-    ensures limits { limits_of me.new ≡ limits_of me.old }
 {
     if !me.pages.owns(p) {
         return absent_step(me, book, t, p);

@@ -209,8 +209,6 @@ pub fn take_step(
     requires { MayTakeFrom inbox.old me.old }
     ensures line { Takes me.old inbox.old me.new inbox.new result (table_take.take_step scenario.now) }
     ensures memory { TakesInRoom me.old inbox.old result (table_take.take_step scenario.now) }
-    ensures limits { limits_of me.new ≡ limits_of me.old }
-    ensures pages { inbox.new.pages ≡ inbox.old.pages }
 {
     match at_front(scenario, me, inbox) {
         Front::Nothing => Ok(Answer::quiet(Outcome::NoMessage)),
@@ -232,8 +230,6 @@ fn arrival_step(
         → Takes me.old inbox.old me.new inbox.new result (λ v. table_take.arrival_step line m v (rest v)) }
     ensures memory { (m : AMessage)
         → TakesInRoom me.old inbox.old result (λ v. table_take.arrival_step line m v (rest v)) }
-    ensures limits { limits_of me.new ≡ limits_of me.old }
-    ensures pages { inbox.new.pages ≡ inbox.old.pages }
 {
     match line {
         MessageLine::Stray => Ok(Answer::quiet(Outcome::Stray)),
@@ -253,8 +249,6 @@ fn turn_step(
     ensures line { (m : AMessage) → slice_get inbox.old.messages 0 ≡ Some m
         → Takes me.old inbox.old me.new inbox.new result (λ v. table_take.arrival_step (Turns mode sent) m v (rest v)) }
     ensures memory { (sent ≡ None) ⊎ (1 ≤ me.old.outbox.spare) → IsOk result }
-    ensures limits { limits_of me.new ≡ limits_of me.old }
-    ensures pages { inbox.new.pages ≡ inbox.old.pages }
 {
     reserve_answer(me, sent)?;
     let Some(message) = inbox.take() else {
@@ -277,8 +271,6 @@ fn pull_step(
     ensures line { Takes me.old inbox.old me.new inbox.new result
         (λ v. table_take.pull_step scenario.now p line v (rest v)) }
     ensures memory { TakesInRoom me.old inbox.old result (λ v. table_take.pull_step scenario.now p line v (rest v)) }
-    ensures limits { limits_of me.new ≡ limits_of me.old }
-    ensures pages { inbox.new.pages ≡ inbox.old.pages }
 {
     let MessageLine::Turns(_, _) = line else {
         return Ok(Answer::quiet(Outcome::Stray));

@@ -7,7 +7,9 @@ use Rattle.zy_rules.proofs.run.insert_step.Goals as goal
 
 pub returns-then-is_there-clause-line : goal.returns-then-is_there-clause-line
 unfolding txn_at
-returns-then-is_there-clause-line c v =
-    let there = rw c.txn.ensures at (sym c.is_there.ensures ∙ c.if-is_there.true) in
-    c.abort_step.ensures.line v ∙ sym (insert-duplicate c.args.scenario.now c.args.t c.args.key c.args.value c.args.p Exclusive
-    (here c.args.me.now c.args.book.now v) there)
+returns-then-is_there-clause-line c =
+    let there = rw c.txn.ensures at (sym c.is_there.ensures ∙ c.if-is_there.true) in (
+      c.abort_step.ensures.line.0,
+      λ v. c.abort_step.ensures.line.1 v ∙ sym (insert-duplicate c.args.scenario.now c.args.t c.args.key c.args.value c.args.p Exclusive
+          (here c.args.me.now c.args.book.now v) there),
+    )

@@ -17,13 +17,16 @@ pub cut-requires-clause-limit : goal.cut-requires-clause-limit
 cut-requires-clause-limit c =
     growable c.args.scenario.now c.args.t c.args.key c.args.p c.args.at c.args.me.now c.args.book.now c.requires.full c.requires.normal c.requires.more
 
-pub returns-clause-line : goal.returns-clause-line
+pub returns : goal.returns
 unfolding split_step cut locked txn_at
-returns-clause-line c v = rw (
-  c.quiet.ensures,
-  c.in_ok-cut.ensures.ok,
-  c.in_ok-cut.ensures.outbox,
-  c.in_ok-boundary.ensures,
-  c.txn.ensures,
-  c.page_count-new_page.ensures.value,
-) refl
+returns c = (
+  c.in_ok-cut.ensures.limits,
+  λ v. rw (
+    c.quiet.ensures,
+    c.in_ok-cut.ensures.ok,
+    c.in_ok-cut.ensures.outbox,
+    c.in_ok-boundary.ensures,
+    c.txn.ensures,
+    c.page_count-new_page.ensures.value,
+  ) refl,
+)

@@ -1,19 +1,24 @@
-use Rattle.std.proofs.Common.{◌≡◌, refl}
+use Rattle.std.proofs.Common.{◌≡◌, ◌∙◌, refl}
 use Rattle.zy_links.specs.Messages.{message_of}
 use Rattle.zy_table.specs.Take.{arrival_step}
 use Rattle.zy_rules.proofs.take.turn_step.Goals as goal
 
 pub returns-clause-line : goal.returns-clause-line
 unfolding arrival_step
-returns-clause-line c m front v =
+returns-clause-line c m front =
     let first = c.in-Some.ensures.front in
-    let is : message_of c.in-Some.message ≡ m = cc in
-    rw (
-      c.outcome_of-outcome.ensures,
-      c.take_in.ensures.node,
-      c.take_in.ensures.outbox,
-      c.take.ensures.left,
-      c.reserve_answer.ensures.others,
-      c.reserve_answer.ensures.outbox,
-      is,
-    ) refl
+    let is : message_of c.in-Some.message ≡ m = cc in (
+      c.take.ensures.pages,
+      (
+        c.take_in.ensures.limits ∙ c.reserve_answer.ensures.limits,
+        λ v. rw (
+          c.outcome_of-outcome.ensures,
+          c.take_in.ensures.node,
+          c.take_in.ensures.outbox,
+          c.take.ensures.left,
+          c.reserve_answer.ensures.others,
+          c.reserve_answer.ensures.outbox,
+          is,
+        ) refl,
+      ),
+    )

@@ -7,9 +7,9 @@ use Rattle.zy_machine.proofs.node_pair.NodePair.finish_step.Goals as goal
 pub returns-in-A-clause-line : goal.returns-in-A-clause-line
 returns-in-A-clause-line c =
     rw c.in-A.is (at-a c.args.self.now c.finish_step.new.me c.args.self.now.book c.finish_step.result _
-    (rw c.in-A.is at (c.finish_step.ensures.line (facing A (state_of c.args.self.now)))))
+    (rw c.in-A.is at (c.finish_step.ensures.line.1 (facing A (state_of c.args.self.now)))))
 
 pub returns-in-B-clause-line : goal.returns-in-B-clause-line
 returns-in-B-clause-line c =
     rw c.in-B.is (at-b c.args.self.now c.finish_step-in-B.new.me c.args.self.now.book c.finish_step-in-B.result _
-    (rw c.in-B.is at (c.finish_step-in-B.ensures.line (facing B (state_of c.args.self.now)))))
+    (rw c.in-B.is at (c.finish_step-in-B.ensures.line.1 (facing B (state_of c.args.self.now)))))

@@ -13,9 +13,9 @@ run_step-requires-in-B c = rw c.in-B.is (rw c.in-B.is at c.requires)
 pub returns-in-A-clause-line : goal.returns-in-A-clause-line
 returns-in-A-clause-line c =
     rw c.in-A.is (at-a c.args.self.now c.run_step.new.me c.run_step.new.book c.run_step.result _
-    (rw c.in-A.is at (c.run_step.ensures.line (facing A (state_of c.args.self.now)))))
+    (rw c.in-A.is at (c.run_step.ensures.line.1 (facing A (state_of c.args.self.now)))))
 
 pub returns-in-B-clause-line : goal.returns-in-B-clause-line
 returns-in-B-clause-line c =
     rw c.in-B.is (at-b c.args.self.now c.run_step-in-B.new.me c.run_step-in-B.new.book c.run_step-in-B.result _
-    (rw c.in-B.is at (c.run_step-in-B.ensures.line (facing B (state_of c.args.self.now)))))
+    (rw c.in-B.is at (c.run_step-in-B.ensures.line.1 (facing B (state_of c.args.self.now)))))

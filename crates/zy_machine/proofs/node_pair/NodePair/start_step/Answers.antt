@@ -23,7 +23,7 @@ returns-in-A-clause-line c =
     let side : side_of c.args.scenario.now Start (state_of s) ≡ A =
     ap (λ (v : Version). unwrap_or (on_start s.a.mode s.b.mode v) A) (sym c.version.ensures.value)
     ∙ (ap (λ (o : Option Node). unwrap_or o A) (sym c.on_start-source.ensures) ∙ (sym c.unwrap_or.ensures ∙ c.in-A.is)) in
-    rw side (at-a s c.start_step.new.me s.book c.start_step.result _ (c.start_step.ensures.line (facing A (state_of s))))
+    rw side (at-a s c.start_step.new.me s.book c.start_step.result _ (c.start_step.ensures.line.1 (facing A (state_of s))))
 
 pub returns-in-B-clause-line : goal.returns-in-B-clause-line
 returns-in-B-clause-line c =
@@ -31,4 +31,4 @@ returns-in-B-clause-line c =
     let side : side_of c.args.scenario.now Start (state_of s) ≡ B =
     ap (λ (v : Version). unwrap_or (on_start s.a.mode s.b.mode v) A) (sym c.version.ensures.value)
     ∙ (ap (λ (o : Option Node). unwrap_or o A) (sym c.on_start-source.ensures) ∙ (sym c.unwrap_or.ensures ∙ c.in-B.is)) in
-    rw side (at-b s c.start_step-in-B.new.me s.book c.start_step-in-B.result _ (c.start_step-in-B.ensures.line (facing B (state_of s))))
+    rw side (at-b s c.start_step-in-B.new.me s.book c.start_step-in-B.result _ (c.start_step-in-B.ensures.line.1 (facing B (state_of s))))

@@ -17,9 +17,9 @@ take_step-requires-in-B c =
 pub returns-in-A-clause-line : goal.returns-in-A-clause-line
 returns-in-A-clause-line c =
     rw c.in-A.is (meets-a c.args.self.now c.take_step.new.me c.take_step.new.inbox c.take_step.result _
-    (c.take_step.ensures.line (facing A (state_of c.args.self.now))))
+    (c.take_step.ensures.line.1.1 (facing A (state_of c.args.self.now))))
 
 pub returns-in-B-clause-line : goal.returns-in-B-clause-line
 returns-in-B-clause-line c =
     rw c.in-B.is (meets-b c.args.self.now c.take_step-in-B.new.me c.take_step-in-B.new.inbox c.take_step-in-B.result _
-    (c.take_step-in-B.ensures.line (facing B (state_of c.args.self.now))))
+    (c.take_step-in-B.ensures.line.1.1 (facing B (state_of c.args.self.now))))
