@@ -24,14 +24,14 @@ start-steps sc old new (Ok x) h = h
 start-steps sc old new (Err e) h = h
 
 -- a line of the begin made at A is the step by `begin`
-pub begin-steps : (sc : Scenario) (t : ℕ) (old new : NodePair) (x : Answer) → IsMade A new x (begin_step t (facing A (state_of old)))
+pub begin-steps : (sc : Scenario) (t : ℕ) (old new : NodePair) (x : Answer) → IsMade A old new x (begin_step t (facing A (state_of old)))
     → Steps {E = Unit {0}} old new (Ok x) (step sc (Begin t) (state_of old))
 unfolding step move
 begin-steps sc t old new x h = h
 
 -- a line of the kill made at the transaction's node is the step by `kill`
 pub kill-steps : (sc : Scenario) (t : ℕ) (old new : NodePair) (x : Answer)
-    → (let n = (txn_or (slice_get old.book.txns t)).node in IsMade n new x (kill_step t (facing n (state_of old))))
+    → (let n = (txn_or (slice_get old.book.txns t)).node in IsMade n old new x (kill_step t (facing n (state_of old))))
     → Steps {E = Unit {0}} old new (Ok x) (step sc (Kill t) (state_of old))
 unfolding step move
 kill-steps sc t old new x h = h

@@ -43,14 +43,15 @@ abbrev pub IsReady : Scenario → Node → ℕ → NodePair → Type 0
 IsReady sc A t s = IsReadyHere sc A t s.a s.book
 IsReady sc B t s = IsReadyHere sc B t s.b s.book
 
--- the call answered what the line answers, and left the state behind it
-abbrev pub IsMade : Node → NodePair → Answer → Move → Type 0
-IsMade n new x m = (state_of new ≡ seen_from n m.after) × (x.outcome ≡ m.outcome) × (x.sent ≡ m.sent)
+-- the call answered what the line answers, left the state behind it, and kept the limits
+abbrev pub IsMade : Node → NodePair → NodePair → Answer → Move → Type 0
+IsMade n old new x m =
+    (state_of new ≡ seen_from n m.after) × (x.outcome ≡ m.outcome) × (x.sent ≡ m.sent) × (limits_in new ≡ limits_in old)
 
 -- the same, or memory was wanted and nothing changed
 abbrev pub MakesAt : {E : Type 0} → Node → NodePair → NodePair → Result Answer E → Move → Type 0
-MakesAt n old new (Ok x) m = IsMade n new x m
-MakesAt n old new (Err e) m = state_of new ≡ state_of old
+MakesAt n old new (Ok x) m = IsMade n old new x m
+MakesAt n old new (Err e) m = (state_of new ≡ state_of old) × (limits_in new ≡ limits_in old)
 
 -- a choice can be made: the transaction that it names is there, and its run is safe; the node that starts has a page
 abbrev pub IsPossible : Scenario → Choice → NodePair → Type 0
@@ -62,7 +63,8 @@ IsPossible sc (Take n) s = let v = facing n (state_of s) in MayTake v.inbox v.me
 IsPossible sc (Finish n) s = length s.book.txns ≤ max_txns
 IsPossible sc (Push n) s = Unit {0}
 
--- the call made this step, or memory was wanted and nothing changed
+-- the call made this step and kept the limits, or memory was wanted and nothing changed
 abbrev pub Steps : {E : Type 0} → NodePair → NodePair → Result Answer E → Step → Type 0
-Steps old new (Ok x) m = (state_of new ≡ m.after) × (x.outcome ≡ m.outcome) × (x.sent ≡ m.sent)
-Steps old new (Err e) m = state_of new ≡ state_of old
+Steps old new (Ok x) m =
+    (state_of new ≡ m.after) × (x.outcome ≡ m.outcome) × (x.sent ≡ m.sent) × (limits_in new ≡ limits_in old)
+Steps old new (Err e) m = (state_of new ≡ state_of old) × (limits_in new ≡ limits_in old)

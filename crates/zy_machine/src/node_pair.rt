@@ -68,9 +68,8 @@ impl NodePair {
     #[inline(always)]
     fn run_step(&mut self, scenario: &Scenario, n: Node, t: u8) -> Result<Answer, AllocError>
         requires { IsReady scenario.now n t self.old }
-        ensures line { MakesAt n self.old self.new result (table_run.run_step scenario.now n t
+        ensures { MakesAt n self.old self.new result (table_run.run_step scenario.now n t
             (facing n (state_of self.old))) }
-        ensures limits { limits_in self.new ≡ limits_in self.old }
     {
         match n {
             Node::A => run_step(scenario, self.alloc, n, &mut self.a, &mut self.book, t),
@@ -82,9 +81,8 @@ impl NodePair {
     fn take_step(&mut self, scenario: &Scenario, n: Node) -> Result<Answer, AllocError>
         requires may { let v = facing n (state_of self.old) in MayTake v.inbox v.me }
         requires limited { AreLimited scenario.now.pages self.old }
-        ensures line { MakesAt n self.old self.new result (table_take.take_step scenario.now
+        ensures { MakesAt n self.old self.new result (table_take.take_step scenario.now
             (facing n (state_of self.old))) }
-        ensures limits { limits_in self.new ≡ limits_in self.old }
     {
         match n {
             Node::A => take_step(scenario, &mut self.a, &mut self.b.outbox),
@@ -94,8 +92,7 @@ impl NodePair {
 
     /// `n push`.
     fn push_step(&mut self, n: Node) -> Result<Answer, AllocError>
-        ensures line { MakesAt n self.old self.new result (table_push.push_step (facing n (state_of self.old))) }
-        ensures limits { limits_in self.new ≡ limits_in self.old }
+        ensures { MakesAt n self.old self.new result (table_push.push_step (facing n (state_of self.old))) }
     {
         match n {
             Node::A => push_step(&mut self.a),
@@ -106,8 +103,7 @@ impl NodePair {
     /// `n finish`.
     fn finish_step(&mut self, n: Node) -> Result<Answer, AllocError>
         requires { length self.old.book.txns ≤ max_txns }
-        ensures line { MakesAt n self.old self.new result (table_push.finish_step n (facing n (state_of self.old))) }
-        ensures limits { limits_in self.new ≡ limits_in self.old }
+        ensures { MakesAt n self.old self.new result (table_push.finish_step n (facing n (state_of self.old))) }
     {
         match n {
             Node::A => finish_step(n, &mut self.a, &self.book),
@@ -119,9 +115,8 @@ impl NodePair {
     fn start_step(&mut self, scenario: &Scenario) -> Result<Answer, AllocError>
         requires may { MayStart self.old }
         requires limited { AreLimited scenario.now.pages self.old }
-        ensures line { let n = side_of scenario.now Start (state_of self.old) in
+        ensures { let n = side_of scenario.now Start (state_of self.old) in
             MakesAt n self.old self.new result (table_client.start_step (facing n (state_of self.old))) }
-        ensures limits { limits_in self.new ≡ limits_in self.old }
     {
         let source = on_start(self.a.mode, self.b.mode, scenario.version());
         match source.unwrap_or(Node::A) {
@@ -133,8 +128,7 @@ impl NodePair {
     /// `C begin t`.
     fn begin_step(&mut self, t: u8) -> Answer
         requires { t < length self.old.book.txns }
-        ensures line { IsMade A self.new result (table_client.begin_step t (facing A (state_of self.old))) }
-        ensures limits { limits_in self.new ≡ limits_in self.old }
+        ensures { IsMade A self.old self.new result (table_client.begin_step t (facing A (state_of self.old))) }
     {
         begin_step(&self.a, &self.b, &mut self.book, t)
     }
@@ -142,9 +136,8 @@ impl NodePair {
     /// `C kill t`.
     fn kill_step(&mut self, t: u8) -> Answer
         requires { t < length self.old.book.txns }
-        ensures line { let n = (txn_in t self.old.book).node in
-            IsMade n self.new result (table_client.kill_step t (facing n (state_of self.old))) }
-        ensures limits { limits_in self.new ≡ limits_in self.old }
+        ensures { let n = (txn_in t self.old.book).node in
+            IsMade n self.old self.new result (table_client.kill_step t (facing n (state_of self.old))) }
     {
         match self.book.txn(t).node() {
             Node::A => kill_step(&mut self.a, &mut self.book, t),
@@ -157,8 +150,7 @@ impl NodePair {
     pub(crate) fn step(&mut self, scenario: &Scenario, choice: Choice) -> Result<Answer, AllocError>
         requires possible { IsPossible scenario.now choice self.old }
         requires limited { AreLimited scenario.now.pages self.old }
-        ensures line { Steps self.old self.new result (table_play.step scenario.now choice (state_of self.old)) }
-        ensures limits { limits_in self.new ≡ limits_in self.old }
+        ensures { Steps self.old self.new result (table_play.step scenario.now choice (state_of self.old)) }
     {
         if let Choice::Run(n, t) = choice {
             return self.run_step(scenario, n, t);
@@ -171,8 +163,7 @@ impl NodePair {
     fn any_step(&mut self, scenario: &Scenario, choice: Choice) -> Result<Answer, AllocError>
         requires possible { IsPossible scenario.now choice self.old }
         requires limited { AreLimited scenario.now.pages self.old }
-        ensures line { Steps self.old self.new result (table_play.step scenario.now choice (state_of self.old)) }
-        ensures limits { limits_in self.new ≡ limits_in self.old }
+        ensures { Steps self.old self.new result (table_play.step scenario.now choice (state_of self.old)) }
     {
         match choice {
             Choice::Start => self.start_step(scenario),

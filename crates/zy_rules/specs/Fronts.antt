@@ -6,10 +6,10 @@ use Rattle.zy_model.specs.Messages.{Message, Pull, kind_of}
 use Rattle.zy_table.specs.State.{View, NodeState, Move}
 use Rattle.zy_table.specs.Take.{all_here, with_brought}
 use Rattle.zy_node.specs.declared.node_store.NodeStore.{NodeStore}
-use Rattle.zy_node.specs.Nodes.{with_node}
+use Rattle.zy_node.specs.Nodes.{limits_of, with_node}
 use Rattle.zy_node.specs.Mail.{Mail}
 use Rattle.zy_table.specs.declared.answer.Answer.{Answer}
-use Rattle.zy_rules.specs.Parts.{MakesLine}
+use Rattle.zy_table.specs.Answers.{Makes}
 use Rattle.zy_rules.specs.Memory.{SendNeedsNone}
 use Rattle.zy_rules.specs.declared.take.Front.{Front}
 use Rattle.zy_rules.specs.declared.take.Front.TheVariants.{Nothing, Asks, Brings}
@@ -20,7 +20,8 @@ meets x inbox v = with_node x (record v { inbox = inbox.messages })
 
 -- a call on a node and the link to it made a line, whatever the rest of the state, and kept the limits of both
 abbrev pub Takes : {E : Type 0} → NodeStore → Mail → NodeStore → Mail → Result Answer E → (View → Move) → Type 0
-Takes x i x1 i1 result step = (i1.pages ≡ i.pages) × MakesLine x x1 (meets x i) (meets x1 i1) result step
+Takes x i x1 i1 result step = (i1.pages ≡ i.pages) × (limits_of x1 ≡ limits_of x)
+    × ((v : View) → Makes (meets x i v) (meets x1 i1 v) result (step (meets x i v)))
 
 -- a call on a node and the link to it is not out of memory, if the line needs none
 abbrev pub TakesInRoom : {E : Type 0} → NodeStore → Mail → Result Answer E → (View → Move) → Type 0

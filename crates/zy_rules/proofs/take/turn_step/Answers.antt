@@ -9,16 +9,14 @@ returns-clause-line c m front =
     let first = c.in-Some.ensures.front in
     let is : message_of c.in-Some.message ≡ m = cc in (
       c.take.ensures.pages,
-      (
-        c.take_in.ensures.limits ∙ c.reserve_answer.ensures.limits,
-        λ v. rw (
-          c.outcome_of-outcome.ensures,
-          c.take_in.ensures.node,
-          c.take_in.ensures.outbox,
-          c.take.ensures.left,
-          c.reserve_answer.ensures.others,
-          c.reserve_answer.ensures.outbox,
-          is,
-        ) refl,
-      ),
+      c.take_in.ensures.limits ∙ c.reserve_answer.ensures.limits,
+      λ v. rw (
+        c.outcome_of-outcome.ensures,
+        c.take_in.ensures.node,
+        c.take_in.ensures.outbox,
+        c.take.ensures.left,
+        c.reserve_answer.ensures.others,
+        c.reserve_answer.ensures.outbox,
+        is,
+      ) refl,
     )

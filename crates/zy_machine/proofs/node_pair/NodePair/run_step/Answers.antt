@@ -10,12 +10,12 @@ run_step-requires c = rw c.in-A.is (rw c.in-A.is at c.requires)
 pub run_step-requires-in-B : goal.run_step-requires-in-B
 run_step-requires-in-B c = rw c.in-B.is (rw c.in-B.is at c.requires)
 
-pub returns-in-A-clause-line : goal.returns-in-A-clause-line
-returns-in-A-clause-line c =
+pub returns-in-A : goal.returns-in-A
+returns-in-A c =
     rw c.in-A.is (at-a c.args.self.now c.run_step.new.me c.run_step.new.book c.run_step.result _
-    (rw c.in-A.is at (c.run_step.ensures.line.1 (facing A (state_of c.args.self.now)))))
+    c.run_step.ensures.line.0 (rw c.in-A.is at (c.run_step.ensures.line.1 (facing A (state_of c.args.self.now)))))
 
-pub returns-in-B-clause-line : goal.returns-in-B-clause-line
-returns-in-B-clause-line c =
+pub returns-in-B : goal.returns-in-B
+returns-in-B c =
     rw c.in-B.is (at-b c.args.self.now c.run_step-in-B.new.me c.run_step-in-B.new.book c.run_step-in-B.result _
-    (rw c.in-B.is at (c.run_step-in-B.ensures.line.1 (facing B (state_of c.args.self.now)))))
+    c.run_step-in-B.ensures.line.0 (rw c.in-B.is at (c.run_step-in-B.ensures.line.1 (facing B (state_of c.args.self.now)))))

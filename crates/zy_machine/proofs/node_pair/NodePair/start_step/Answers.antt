@@ -17,18 +17,18 @@ start_step-requires-clause-some c = c.requires.may A
 pub start_step-requires-in-B-clause-some : goal.start_step-requires-in-B-clause-some
 start_step-requires-in-B-clause-some c = c.requires.may B
 
-pub returns-in-A-clause-line : goal.returns-in-A-clause-line
-returns-in-A-clause-line c =
+pub returns-in-A : goal.returns-in-A
+returns-in-A c =
     let s = c.args.self.now in
     let side : side_of c.args.scenario.now Start (state_of s) ≡ A =
     ap (λ (v : Version). unwrap_or (on_start s.a.mode s.b.mode v) A) (sym c.version.ensures.value)
     ∙ (ap (λ (o : Option Node). unwrap_or o A) (sym c.on_start-source.ensures) ∙ (sym c.unwrap_or.ensures ∙ c.in-A.is)) in
-    rw side (at-a s c.start_step.new.me s.book c.start_step.result _ (c.start_step.ensures.line.1 (facing A (state_of s))))
+    rw side (at-a s c.start_step.new.me s.book c.start_step.result _ c.start_step.ensures.line.0 (c.start_step.ensures.line.1 (facing A (state_of s))))
 
-pub returns-in-B-clause-line : goal.returns-in-B-clause-line
-returns-in-B-clause-line c =
+pub returns-in-B : goal.returns-in-B
+returns-in-B c =
     let s = c.args.self.now in
     let side : side_of c.args.scenario.now Start (state_of s) ≡ B =
     ap (λ (v : Version). unwrap_or (on_start s.a.mode s.b.mode v) A) (sym c.version.ensures.value)
     ∙ (ap (λ (o : Option Node). unwrap_or o A) (sym c.on_start-source.ensures) ∙ (sym c.unwrap_or.ensures ∙ c.in-B.is)) in
-    rw side (at-b s c.start_step-in-B.new.me s.book c.start_step-in-B.result _ (c.start_step-in-B.ensures.line.1 (facing B (state_of s))))
+    rw side (at-b s c.start_step-in-B.new.me s.book c.start_step-in-B.result _ c.start_step-in-B.ensures.line.0 (c.start_step-in-B.ensures.line.1 (facing B (state_of s))))
