@@ -1,9 +1,9 @@
 //! Reads a text line by line.
-ghost use Rattle.std.specs.Prelude.{◌≡◌, ◌<◌, Some, length};
+ghost use Rattle.std.specs.Prelude.{◌≡◌, ◌<◌, IfOk, Some, length};
 ghost use Rattle.zy_asm.specs.Reasons.{by_kind};
 ghost use Rattle.zy_text.specs.Words.{lines_of, words_of};
 ghost use Rattle.zy_text.specs.Lines.{first_line, first_words, lines_below, texts};
-ghost use Rattle.zy_asm.specs.Reading.{Reads, statement, body_line, step, line_step, reading};
+ghost use Rattle.zy_asm.specs.Reading.{Reads, nothing_seen, statement, body_line, step, line_step, reading};
 ghost use Rattle.zy_asm.specs.Reading as spec;
 ghost use Rattle.zy_asm.specs.Reading.Progress.{Steps, progress_of};
 
@@ -19,15 +19,36 @@ use crate::name_table::NameTable;
 use crate::pending::Unresolved;
 use crate::reading::keyword::{Keyword, keyword_of};
 use crate::shown::WordStart;
-use crate::state::{Reader, Stage};
+use crate::state::{LinesAbove, Reader, Stage};
 use crate::word_fault::WordFault;
-use std::alloc::Global;
-use zy_isa::{Rule, Version};
+use std::alloc::{AllocError, Global};
+use zy_isa::{MAX_CHOICES, Rule, Version};
 use zy_text::Words;
 use zy_text::line::take_line;
 use zy_text::names::label_of;
 
 impl Reader {
+    /// Nothing is read, and there is room for this many choices.
+    fn new(alloc: Global, choices: usize) -> Result<Reader, AllocError>
+        ensures { IfOk result (λ r. progress_of r ≡ nothing_seen) }
+    {
+        let choices = Vec::with_capacity(alloc, choices)?;
+        Ok(Reader {
+            alloc,
+            stage: Stage::Zephyr,
+            version: Version::One,
+            cap: 2,
+            pages: 1,
+            rule: Rule::Held,
+            rows: Vec::new(alloc),
+            names: NameTable::new(alloc),
+            programs: Vec::new(alloc),
+            labels: NameTable::new(alloc),
+            instrs: Vec::new(alloc),
+            choices,
+        })
+    }
+
     /// Takes a line below the header, whose first word is this keyword.
     fn statement(&mut self, keyword: Keyword, words: &[&[u8]]) -> Result<(), WordFault>
         ensures { Steps result (progress_of self.new) (statement (Some keyword) (progress_of self.old)
@@ -126,23 +147,22 @@ fn end_reached(stage: Stage) -> Result<(), Reason>
     }
 }
 
+/// How many choices a text has if each of its lines is a choice of eight bytes, but no more than there may be.
+fn likely_choices(text: &str) -> usize {
+    (text.len() / 8).min(MAX_CHOICES)
+}
+
 /// Reads a whole text.
 pub fn read(alloc: Global, text: &str) -> Result<Reader, LineFault>
     ensures { Reads result (reading text.now) }
 {
-    let mut reader = Reader {
-        alloc,
-        stage: Stage::Zephyr,
-        version: Version::One,
-        cap: 2,
-        pages: 1,
-        rule: Rule::Held,
-        rows: Vec::new(alloc),
-        names: NameTable::new(alloc),
-        programs: Vec::new(alloc),
-        labels: NameTable::new(alloc),
-        instrs: Vec::new(alloc),
-        choices: Vec::new(alloc),
+    let Ok(mut reader) = Reader::new(alloc, likely_choices(text)) else {
+        return Err(LineFault {
+            line: 1,
+            at: 0,
+            reason: Reason::NoMemory,
+            above: LinesAbove::none(),
+        });
     };
     let mut words = Words::new();
     let mut rest = text.as_bytes();
@@ -157,22 +177,12 @@ pub fn read(alloc: Global, text: &str) -> Result<Reader, LineFault>
         let (outcome, below) = reader.take(&mut words, rest);
         rest = below;
         if let Err(fault) = outcome {
-            return Err(LineFault {
-                line,
-                at: fault.at,
-                reason: fault.reason,
-                above: reader.lines_above(),
-            });
+            return Err(reader.rejected(line, fault));
         }
         line += 1;
     }
     match end_reached(reader.stage) {
         Ok(()) => Ok(reader),
-        Err(reason) => Err(LineFault {
-            line,
-            at: 0,
-            reason,
-            above: reader.lines_above(),
-        }),
+        Err(reason) => Err(reader.rejected(line, reason.at(0))),
     }
 }

@@ -1,10 +1,12 @@
 //! What the lines so far gave.
-ghost use Rattle.std.specs.Prelude.{◌≤◌, ◌+◌, length};
+ghost use Rattle.std.specs.Prelude.{◌≡◌, ◌≤◌, ◌+◌, length};
 ghost use Rattle.zy_isa.specs.Limits.{max_txns, max_instrs, max_choices};
 ghost use Rattle.zy_asm.specs.Stages.{open_programs};
 
+use crate::faults::LineFault;
 use crate::name_table::NameTable;
 use crate::pending::Unresolved;
+use crate::word_fault::WordFault;
 use std::alloc::Global;
 use zy_isa::{Choice, Program, Row, Rule, Version};
 
@@ -85,6 +87,19 @@ impl Reader {
             version: self.version,
             cap: self.cap,
             programs: self.programs.len() + open,
+        }
+    }
+
+    /// The fault of the line of this number, which is below what was read.
+    pub fn rejected(&self, line: usize, fault: WordFault) -> LineFault
+        ensures line { result.line ≡ line }
+        ensures reason { result.reason ≡ fault.reason }
+    {
+        LineFault {
+            line,
+            at: fault.at,
+            reason: fault.reason,
+            above: self.lines_above(),
         }
     }
 }

@@ -1,8 +1,10 @@
 -- A line that was done, the fault of a line, and that of the end.
-use Rattle.std.proofs.Common.{◌≡◌, ◌∙◌, ap, arith, rules, sym, inl, inr}
+use Rattle.std.proofs.Common.{◌≡◌, ◌∙◌, ℕ, ap, ap₂, arith, rules, sym, inl, inr, Err}
 use Rattle.zy_text.specs.Words.{lines_of}
 use Rattle.zy_text.specs.Lines.{first_line}
-use Rattle.zy_asm.specs.Reasons.{kind_of}
+use Rattle.zy_asm.specs.declared.faults.LineFault.{LineFault}
+use Rattle.zy_asm.specs.declared.faults.Reason.{Reason}
+use Rattle.zy_asm.specs.Reasons.{kind_of, fault_of}
 use Rattle.zy_asm.specs.Reading.Progress.{progress_of}
 use Rattle.zy_asm.specs.Reading.{reading, read_lines}
 use Rattle.zy_asm.proofs.CodeLemmas.{empty_lines, fault_at, fault_end, line_done}
@@ -37,24 +39,32 @@ loop-words-preserved c =
       few = omega (arith, c.take-outcome.ensures.shorter, c.loop-words.invariant.few);
     }
 
+-- the fault of a line, by the line and the reason
+as_told : (f : LineFault) (line : ℕ) (r : Reason) → f.line ≡ line → f.reason ≡ r → record { line = line; kind = kind_of r } ≡ fault_of f
+as_told f line r h e = ap₂ (λ (l : ℕ) (x : Reason). record { line = l; kind = kind_of x }) (sym h) (sym e)
+
 pub returns-in-Err : goal.returns-in-Err
 returns-in-Err c =
     let some = sym c.is_empty.ensures ∙ c.loop-words-test.true in
     let rest = c.loop-words.rest.now in
     let before : progress_of c.take_usual.new.self ≡ progress_of c.loop-words.reader = search rules in
     let step = rw c.in-Err.is at c.take-outcome.ensures.step in
+    let told = as_told c.rejected.result c.loop-words.line c.in-Err.fault.reason c.rejected.ensures.line c.rejected.ensures.reason in
     elim step [
-      | inl e ↦ inl e
+      | inl e ↦ inl (ap kind_of c.rejected.ensures.reason ∙ e)
       | inr e ↦
           inr (fault_at (progress_of c.take_usual.new.self) c.loop-words.line (lines_of rest) (lines_of c.take-outcome.result.1.now)
           (first_line rest) (kind_of c.in-Err.fault.reason) (reading c.args.text.now)
           (ap (λ s. read_lines s c.loop-words.line (lines_of rest)) before ∙ c.loop-words.invariant.same)
           (line_taken rest c.take-outcome.result.1.now some c.take-outcome.ensures.below)
-          e)
+          e ∙ ap Err told)
     ]
 
 pub returns-in-Err-end_reached : goal.returns-in-Err-end_reached
 returns-in-Err-end_reached c =
+    let told = as_told c.rejected-in-Err-end_reached.result c.loop-words.line c.in-Err-end_reached.reason
+    c.rejected-in-Err-end_reached.ensures.line (c.rejected-in-Err-end_reached.ensures.reason ∙ c.at.ensures) in
     inr (fault_end (progress_of c.loop-words.reader) c.loop-words.line (lines_of c.loop-words.rest.now) (kind_of c.in-Err-end_reached.reason)
     (reading c.args.text.now)
-    c.loop-words.invariant.same (empty_lines c.loop-words.rest.now (sym c.is_empty.ensures ∙ c.loop-words-test.false)) (sym c.in-Err-end_reached.ensures))
+    c.loop-words.invariant.same (empty_lines c.loop-words.rest.now (sym c.is_empty.ensures ∙ c.loop-words-test.false)) (sym c.in-Err-end_reached.ensures)
+    ∙ ap Err told)
