@@ -11,7 +11,7 @@ ghost use Rattle.zy_table.specs.Pages as table_pages;
 ghost use Rattle.zy_table.specs.Take.{all_here, with_brought, with_answer};
 ghost use Rattle.zy_table.specs.Take as table_take;
 ghost use Rattle.zy_node.specs.Mail.{HasRoom};
-ghost use Rattle.zy_node.specs.Nodes.{node_shown, limits_of};
+ghost use Rattle.zy_node.specs.Nodes.{node_shown, limits_of, KeepsLink};
 ghost use Rattle.zy_node.specs.Wireframes.{lows_in};
 ghost use Rattle.zy_rules.specs.Arrivals.{IsFitting, IsNamed, IsNew, MayTake, MayTakeFrom};
 ghost use Rattle.zy_rules.specs.Fronts.{front_of, rest, IsFront, Takes, TakesInRoom};
@@ -83,8 +83,7 @@ fn line(scenario: &Scenario, me: &NodeStore, message: &Message) -> MessageLine
 fn bring(me: &mut NodeStore, message: Message)
     requires { IsFitting message me.old }
     ensures node { node_shown me.new ≡ with_brought (message_of message) (node_shown me.old) }
-    ensures outbox { me.new.outbox ≡ me.old.outbox }
-    ensures limits { limits_of me.new ≡ limits_of me.old }
+    ensures link { KeepsLink me.old me.new }
 {
     match message {
         Message::Wire(wire) => me.wire = Some(wire),

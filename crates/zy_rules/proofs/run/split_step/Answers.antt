@@ -20,11 +20,11 @@ cut-requires-clause-limit c =
 pub returns : goal.returns
 unfolding split_step cut locked txn_at
 returns c = (
-  c.in_ok-cut.ensures.limits,
+  c.in_ok-cut.ensures.link.1,
   λ v. rw (
     c.quiet.ensures,
     c.in_ok-cut.ensures.ok,
-    c.in_ok-cut.ensures.outbox,
+    c.in_ok-cut.ensures.link.0,
     c.in_ok-boundary.ensures,
     c.txn.ensures,
     c.page_count-new_page.ensures.value,
