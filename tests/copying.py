@@ -6,13 +6,13 @@ import shutil
 import subprocess
 import sys
 
-import unproved
+import compiling
 from case import PROGRAM, TOP
 
 # The programs as they are proved.
 PROGRAMS = {'zy_bench': PROGRAM, 'zy_first': os.path.join(TOP, 'crates', 'zy_first', 'out', 'zy_first')}
 
-# Where the programs with faults are kept.
+# Where the programs that are built without proofs are kept.
 KEPT = os.path.join(TOP, 'crates', 'zy_bench', 'out', 'planted')
 
 # The tests that need ./zy_bench itself; none of them lets it prove anything.
@@ -82,7 +82,7 @@ class Copy:
         path = os.path.join(KEPT, '%s-%s' % (name, self.sources()))
         if not os.path.exists(path):
             os.makedirs(KEPT, exist_ok=True)
-            unproved.build(self.top, name, path + '.part')
+            compiling.build(self.top, name, path + '.part')
             os.rename(path + '.part', path)
         shutil.copy2(path, self.path_of(name))
 

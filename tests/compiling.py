@@ -1,4 +1,4 @@
-"""Builds a program of a copy of the repository without its proofs, for tests/planted: nothing is proved of it, and it is as fast as the proved one.
+"""Builds a program of a copy of the repository without its proofs. Nothing is proved of it, and it is slower than the proved one.
 
 `rt try` compiles the program with a test of each access, runs it and keeps nothing. The code that it hands to its compiler lies in its temporary
 folder meanwhile, from where it is taken and compiled without these tests."""
