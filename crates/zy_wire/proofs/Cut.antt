@@ -8,7 +8,8 @@ use Rattle.std.proofs.lemmas.List.{get_or-set_same, get_or-set_other, length-set
 use Rattle.std.proofs.lemmas.List.Edits.{length-insert}
 use Rattle.zy_wire.specs.declared.entry.IndexEntry.{IndexEntry}
 use Rattle.zy_wire.specs.ByLow.{front, IsEntryPlace}
-use Rattle.zy_wire.specs.Nodes.{TreeNode, no_node, node, low_of, IsChild, Children, lower_half, upper_half, LeadsTo, Fits, IsAt, IsTree}
+use Rattle.zy_wire.specs.Nodes.{most_entries, kept_entries, TreeNode, no_node, node, low_of, IsChild, Children, lower_half, upper_half, LeadsTo, Fits}
+use Rattle.zy_wire.specs.Nodes.{IsAt, IsTree}
 use Rattle.zy_wire.specs.Pages.{Whole, Has, Holds}
 use Rattle.zy_wire.proofs.Entries.{low_rises, low_below, front_drop, front-insert, front-take, Rise-take, Rise-drop, Rise-insert, one_place}
 use Rattle.zy_wire.proofs.Descent.{child_at}
@@ -21,11 +22,11 @@ pub record Full (nodes : List TreeNode) (p c i : ℕ) : Type 0 where
   pub above : 1 ≤ (node nodes p).level
   pub within : i < length (node nodes p).entries
   pub is : (d : IndexEntry) → (get_or (node nodes p).entries i d).to ≡ c
-  pub full : length (node nodes c).entries ≡ 8
+  pub full : length (node nodes c).entries ≡ most_entries
 
 -- where the upper half begins
 abbrev pub middle : List TreeNode → ℕ → ℕ
-middle nodes c = front (drop 4 (node nodes c).entries) (node nodes c).end
+middle nodes c = front (drop kept_entries (node nodes c).entries) (node nodes c).end
 
 -- the node above, with the new entry
 abbrev pub widened : List TreeNode → ℕ → ℕ → ℕ → TreeNode
@@ -53,14 +54,14 @@ pub record Middle (nodes : List TreeNode) (c : ℕ) : Type 0 where
   pub down : middle nodes c < (node nodes c).end
 
 -- a full node that fits has its middle between its least key and its end
-pub middle_of : (nodes : List TreeNode) (c : ℕ) → Fits nodes (node nodes c) → length (node nodes c).entries ≡ 8 → Middle nodes c
+pub middle_of : (nodes : List TreeNode) (c : ℕ) → Fits nodes (node nodes c) → length (node nodes c).entries ≡ most_entries → Middle nodes c
 middle_of nodes c fits full =
     let n = node nodes c in
     let d : IndexEntry = record { low = 0; to = 0 } in
-    let mid = front_drop 4 d n.entries n.end (omega arith) in
+    let mid = front_drop kept_entries d n.entries n.end (omega arith) in
     let first = front_drop 0 d n.entries n.end (omega arith) in
-    let up = low_rises 0 0 4 d n.entries n.end fits.rise (omega arith) (omega arith) in
-    let down = low_below 0 4 d n.entries n.end fits.rise (omega arith) in
+    let up = low_rises 0 0 kept_entries d n.entries n.end fits.rise (omega arith) (omega arith) in
+    let down = low_below 0 kept_entries d n.entries n.end fits.rise (omega arith) in
     record { up = omega arith; down = omega arith }
 
 -- what the code writes, one after the other: the child as it is read, its halves, the nodes with the upper one, the entry for it, the node above
@@ -200,7 +201,7 @@ module _ (nodes nodes' : List TreeNode) (root top p c i : ℕ) (t : IsTree nodes
       record {
         there = (let z = child.there in let m = k.more in omega arith);
         level = ap (λ (m : TreeNode). m.level + 1) k.lower ∙ child.level;
-        low = ap (λ (m : TreeNode). low_of m) k.lower ∙ (front-take 4 (node nodes c).entries (node nodes c).end ∙ child.low);
+        low = ap (λ (m : TreeNode). low_of m) k.lower ∙ (front-take kept_entries (node nodes c).entries (node nodes c).end ∙ child.low);
         end = ap (λ (m : TreeNode). m.end) k.lower;
       }
 
@@ -271,9 +272,9 @@ module _ (nodes nodes' : List TreeNode) (root top p c i : ℕ) (t : IsTree nodes
   lower_fits there =
       let n = node nodes c in
       record {
-        some = omega (arith, length-take 4 n.entries, f.full);
-        rise = Rise-take 0 4 n.entries n.end (t.each c there).rise;
-        children = λ up. Children-take nodes' n.level n.end 4 n.entries (child_kept there up);
+        some = omega (arith, length-take kept_entries n.entries, f.full);
+        rise = Rise-take 0 kept_entries n.entries n.end (t.each c there).rise;
+        children = λ up. Children-take nodes' n.level n.end kept_entries n.entries (child_kept there up);
       }
 
   -- the same for the upper half
@@ -281,9 +282,9 @@ module _ (nodes nodes' : List TreeNode) (root top p c i : ℕ) (t : IsTree nodes
   upper_fits there =
       let n = node nodes c in
       record {
-        some = omega (arith, length-drop 4 n.entries, f.full);
-        rise = Rise-drop 0 4 n.entries n.end (t.each c there).rise;
-        children = λ up. Children-drop nodes' n.level n.end 4 n.entries (child_kept there up);
+        some = omega (arith, length-drop kept_entries n.entries, f.full);
+        rise = Rise-drop 0 kept_entries n.entries n.end (t.each c there).rise;
+        children = λ up. Children-drop nodes' n.level n.end kept_entries n.entries (child_kept there up);
       }
 
   -- the children of the others are kept: none is the node that is cut
@@ -308,7 +309,7 @@ module _ (nodes nodes' : List TreeNode) (root top p c i : ℕ) (t : IsTree nodes
           | inl here ↦
               let level = ap (λ (n : TreeNode). n.level) (ap (λ y. node nodes' y) here ∙ k.lower) in
               let low : low_of (node nodes' x) ≡ low_of (node nodes c) = ap (λ (n : TreeNode). low_of n) (ap (λ y. node nodes' y) here ∙ k.lower)
-              ∙ front-take 4 (node nodes c).entries (node nodes c).end in
+              ∙ front-take kept_entries (node nodes c).entries (node nodes c).end in
               let end : (node nodes' x).end ≡ middle nodes c = ap (λ (n : TreeNode). n.end) (ap (λ y. node nodes' y) here ∙ k.lower) in
               let under : key < middle nodes c = (let b = h.below in omega arith) in
               record {
@@ -391,8 +392,8 @@ module _ (nodes nodes' : List TreeNode) (root top p c i : ℕ) (t : IsTree nodes
       let fits = t.each c child.there in
       let m = middle_of nodes c fits f.full in
       let had = holds c child.there in
-      let five : 4 < length n.entries = omega (arith, f.full) in
-      let key : Contains lows (middle nodes c) = subst (Contains lows) (sym (front_drop 4 d n.entries n.end five)) (key_at lows 4 d n.entries had.keys five) in
+      let five : kept_entries < length n.entries = omega (arith, f.full) in
+      let key : Contains lows (middle nodes c) = subst (Contains lows) (sym (front_drop kept_entries d n.entries n.end five)) (key_at lows kept_entries d n.entries had.keys five) in
       elim (cases_lt x (length nodes)) [
         | inl old ↦ elim (cases_eq x p) [
           | inl here ↦
@@ -405,11 +406,11 @@ module _ (nodes nodes' : List TreeNode) (root top p c i : ℕ) (t : IsTree nodes
               }))
           | inr notp ↦ elim (cases_eq x c) [
             | inl here ↦ subst (λ y. Has lows (node nodes' y)) (sym here) (subst (Has lows) (sym k.lower) (record {
-              keys = Keys-take lows 4 n.entries had.keys;
+              keys = Keys-take lows kept_entries n.entries had.keys;
               last = inr key;
-              match = λ leaf. Match-take lows 4 n.entries (had.match leaf);
-              whole = λ leaf. subst (λ from. Whole lows from (middle nodes c) (take 4 n.entries)) (sym (front-take 4 n.entries n.end))
-                  (Whole-take lows (low_of n) n.end 4 n.entries fits.rise five (had.match leaf) (omega (arith, m.down)) (had.whole leaf));
+              match = λ leaf. Match-take lows kept_entries n.entries (had.match leaf);
+              whole = λ leaf. subst (λ from. Whole lows from (middle nodes c) (take kept_entries n.entries)) (sym (front-take kept_entries n.entries n.end))
+                  (Whole-take lows (low_of n) n.end kept_entries n.entries fits.rise five (had.match leaf) (omega (arith, m.down)) (had.whole leaf));
             }))
             | inr notc ↦ subst (Has lows) (sym (k.other x old notp notc)) (holds x old)
           ]
@@ -417,10 +418,10 @@ module _ (nodes nodes' : List TreeNode) (root top p c i : ℕ) (t : IsTree nodes
         | inr past ↦
             let here : x ≡ length nodes = omega arith in
             subst (λ y. Has lows (node nodes' y)) (sym here) (subst (Has lows) (sym k.upper) (record {
-              keys = Keys-drop lows 4 n.entries had.keys;
+              keys = Keys-drop lows kept_entries n.entries had.keys;
               last = had.last;
-              match = λ leaf. Match-drop lows 4 n.entries (had.match leaf);
-              whole = λ leaf. Whole-drop lows (low_of n) n.end 4 n.entries fits.rise five (had.match leaf) (omega (arith, m.up)) (had.whole leaf);
+              match = λ leaf. Match-drop lows kept_entries n.entries (had.match leaf);
+              whole = λ leaf. Whole-drop lows (low_of n) n.end kept_entries n.entries fits.rise five (had.match leaf) (omega (arith, m.up)) (had.whole leaf);
             }))
       ]
 
@@ -430,7 +431,7 @@ pub record Ready (nodes : List TreeNode) (root top p c k : ℕ) : Type 0 where
   pub at : IsAt nodes p k
   pub above : 1 ≤ (node nodes p).level
   pub leads : LeadsTo k (node nodes p).entries c
-  pub full : length (node nodes c).entries ≡ 8
+  pub full : length (node nodes c).entries ≡ most_entries
 
 -- A node is ready to be cut.
 module _ (nodes : List TreeNode) (root top p c k : ℕ) (r : Ready nodes root top p c k) where
@@ -448,8 +449,8 @@ module _ (nodes : List TreeNode) (root top p c k : ℕ) (r : Ready nodes root to
   pub child_there : c < length nodes
   child_there = (child_of nodes root top p c r.leads.at r.tree full_of (record { low = 0; to = 0 })).there
 
-  -- a node that is ready to be cut has 8 entries as it is read
-  pub child_full : (at : ℕ) (x : TreeNode) → at ≡ c → x ≡ get_or nodes at x → length x.entries ≡ 8
+  -- a node that is ready to be cut has its most entries as it is read
+  pub child_full : (at : ℕ) (x : TreeNode) → at ≡ c → x ≡ get_or nodes at x → length x.entries ≡ most_entries
   child_full at x here read =
       let same : x ≡ node nodes c = get_or_read nodes c x child_there (rw here at read) no_node in
       ap (λ (n : TreeNode). length n.entries) same ∙ r.full

@@ -1,11 +1,32 @@
 -- The nodes of a tree as everyone sees them.
-use Rattle.std.specs.Prelude.{◌≡◌, ℕ, ◌+◌, ◌<◌, ◌≤◌, List, [], ◌∷◌, length, slice_index_or, take, drop}
+use Rattle.std.specs.Prelude.{◌≡◌, ℕ, ◌+◌, ◌^◌, ◌<◌, ◌≤◌, List, [], ◌∷◌, length, slice_index_or, take, drop}
+use Rattle.zy_isa.specs.Limits.{max_key}
 use Rattle.zy_wire.specs.declared.entry.IndexEntry.{IndexEntry}
 use Rattle.zy_wire.specs.ByLow.{front, Rise, IsEntryPlace}
 
 -- the least number above every key
 abbrev pub key_end : ℕ
-key_end = 65536
+key_end = max_key + 1
+
+-- the least number above every level
+abbrev pub level_end : ℕ
+level_end = 2 ^ 16
+
+-- the least number above that of every node
+abbrev pub node_end : ℕ
+node_end = 2 ^ 32
+
+-- the least number above that of every page
+abbrev pub page_end : ℕ
+page_end = 2 ^ 16
+
+-- the most entries of a node
+abbrev pub most_entries : ℕ
+most_entries = 8
+
+-- how many entries stay where a full node is cut
+abbrev pub kept_entries : ℕ
+kept_entries = 4
 
 -- a node: its level, the least number above its keys, and its entries
 pub record TreeNode : Type 0 where
@@ -13,10 +34,10 @@ pub record TreeNode : Type 0 where
   pub end : ℕ
   pub entries : List IndexEntry
 
--- at most 8 entries, which are the first of the cells
+-- how many entries there are, which are the first of the cells
 pub record IsCells (len : ℕ) (cells : List IndexEntry) : Type 0 where
-  pub few : len ≤ 8
-  pub full : length cells ≡ 8
+  pub few : len ≤ most_entries
+  pub full : length cells ≡ most_entries
 
 -- no node
 unfoldable pub no_node : TreeNode
@@ -28,11 +49,11 @@ node nodes id = slice_index_or nodes id no_node
 
 -- what is left of a full node that is cut
 abbrev pub lower_half : TreeNode → TreeNode
-lower_half n = record { level = n.level; end = front (drop 4 n.entries) n.end; entries = take 4 n.entries }
+lower_half n = record n { end = front (drop kept_entries n.entries) n.end; entries = take kept_entries n.entries }
 
 -- and the new node
 abbrev pub upper_half : TreeNode → TreeNode
-upper_half n = record { level = n.level; end = n.end; entries = drop 4 n.entries }
+upper_half n = record n { entries = drop kept_entries n.entries }
 
 -- the least key of a node
 abbrev pub low_of : TreeNode → ℕ

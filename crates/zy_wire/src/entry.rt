@@ -1,5 +1,6 @@
 //! One entry of a node.
-ghost use Rattle.std.specs.Prelude.{◌≡◌, ◌^◌, ◌<◌};
+ghost use Rattle.std.specs.Prelude.{◌≡◌, ◌<◌};
+ghost use Rattle.zy_wire.specs.Nodes.{page_end};
 
 use crate::node_id::NodeId;
 
@@ -33,7 +34,7 @@ impl IndexEntry {
 
     /// The page that it is of.
     pub fn page(self) -> u16
-        requires { self.to < 2 ^ 16 }
+        requires { self.to < page_end }
         ensures { result ≡ self.to }
     {
         self.to as u16

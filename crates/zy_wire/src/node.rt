@@ -1,6 +1,7 @@
 //! A node of the tree.
-ghost use Rattle.std.specs.Prelude.{◌≡◌, ◌==◌, ℕ, ◌+◌, ◌<◌, ◌≤◌, ◌∷◌, [], take, drop, insert, length};
+ghost use Rattle.std.specs.Prelude.{◌≡◌, ◌==◌, ℕ, ◌+◌, ◌<◌, ◌≤◌, ◌∷◌, [], drop, insert, length};
 ghost use Rattle.zy_wire.specs.ByLow.{Rise, IsEntryPlace, Leads, front};
+ghost use Rattle.zy_wire.specs.Nodes.{most_entries, lower_half, upper_half};
 
 use crate::entry::IndexEntry;
 use std::marker::Model;
@@ -49,7 +50,7 @@ impl IndexNode {
 
     /// A node with these entries.
     fn of(level: u16, end: u32, entries: &[IndexEntry]) -> IndexNode
-        requires { length entries.now ≤ 8 }
+        requires { length entries.now ≤ most_entries }
         ensures { result ≡ record { level = level; end = end; entries = entries.now } }
     {
         let mut cells = [IndexEntry::BLANK; ROOM];
@@ -89,15 +90,15 @@ impl IndexNode {
     /// The entries, in order of low key.
     pub fn entries(&self) -> &[IndexEntry]
         ensures value { result.now ≡ self.now.entries }
-        ensures bound { length self.now.entries ≤ 8 }
+        ensures bound { length self.now.entries ≤ most_entries }
     {
         &self.state.cells[..self.state.len]
     }
 
     /// Whether there is no place for one entry more.
     pub fn is_full(&self) -> bool
-        ensures value { result ≡ (length self.now.entries == 8) }
-        ensures bound { length self.now.entries ≤ 8 }
+        ensures value { result ≡ (length self.now.entries == most_entries) }
+        ensures bound { length self.now.entries ≤ most_entries }
     {
         self.entries().len() == ROOM
     }
@@ -138,7 +139,7 @@ impl IndexNode {
     /// Puts an entry at a place, and moves those from there on up.
     pub fn insert(&mut self, at: usize, entry: IndexEntry)
         requires within { at ≤ length self.old.entries }
-        requires room { length self.old.entries < 8 }
+        requires room { length self.old.entries < most_entries }
         ensures { self.new ≡ record self.old { entries = insert self.old.entries at entry } }
     {
         self.state.cells.copy_within(at..self.state.len, at + 1);
@@ -148,12 +149,9 @@ impl IndexNode {
 
     /// Moves the upper half of a full node's entries into a new one.
     pub fn cut(&mut self) -> IndexNode
-        requires { length self.old.entries ≡ 8 }
-        ensures upper { result ≡ record self.old { entries = drop 4 self.old.entries } }
-        ensures lower { self.new ≡ record self.old {
-          end = front (drop 4 self.old.entries) self.old.end;
-          entries = take 4 self.old.entries;
-        } }
+        requires { length self.old.entries ≡ most_entries }
+        ensures upper { result ≡ upper_half self.old }
+        ensures lower { self.new ≡ lower_half self.old }
     {
         let upper = IndexNode::of(self.state.level, self.state.end, &self.entries()[HALF..]);
         self.state.end = u32::from(self.state.cells[HALF].low);

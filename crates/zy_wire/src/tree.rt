@@ -1,9 +1,10 @@
 //! A tree of nodes in one list.
-ghost use Rattle.std.specs.Prelude.{◌≡◌, ℕ, ◌+◌, ◌^◌, ◌<◌, ◌≤◌, ◌∷◌, ◌++◌, [], IfOk, OnOk, OnErr, IsOk, IfSome};
+ghost use Rattle.std.specs.Prelude.{◌≡◌, ℕ, ◌+◌, ◌<◌, ◌≤◌, ◌∷◌, ◌++◌, [], IfOk, OnOk, OnErr, IsOk, IfSome};
 ghost use Rattle.std.specs.Prelude.{List, ◌≢◌, length};
 ghost use Rattle.std.specs.List.{All};
 ghost use Rattle.zy_wire.specs.declared.entry.IndexEntry.{IndexEntry};
-ghost use Rattle.zy_wire.specs.Nodes.{node, lower_half, upper_half, LeadsTo, IsAt, LeafAt, Fits, key_end};
+ghost use Rattle.zy_wire.specs.Nodes.{node, lower_half, upper_half, LeadsTo, IsAt, LeafAt, Fits};
+ghost use Rattle.zy_wire.specs.Nodes.{key_end, level_end, node_end, most_entries};
 ghost use Rattle.zy_wire.specs.Pages.{Holds};
 
 use crate::entry::IndexEntry;
@@ -118,7 +119,7 @@ impl Tree {
     /// The last node on the way to a key that has a place for one entry more, if there is one.
     fn roomy(&self, key: u16) -> Option<NodeId>
         ensures at { IfSome result (λ id. IsAt self.now.nodes id.0 key) }
-        ensures few { IfSome result (λ id. length (node self.now.nodes id.0).entries < 8) }
+        ensures few { IfSome result (λ id. length (node self.now.nodes id.0).entries < most_entries) }
         ensures level { IfSome result (λ id. (node self.now.nodes id.0).level ≤ self.now.top) }
     {
         let mut found = None;
@@ -138,8 +139,8 @@ impl Tree {
     /// A new root, with the old one as its only entry.
     fn raise(&mut self) -> NodeId
         requires room { 1 ≤ self.old.room }
-        requires level { self.old.top + 1 < 2 ^ 16 }
-        requires number { length self.old.nodes < 2 ^ 32 }
+        requires level { self.old.top + 1 < level_end }
+        requires number { length self.old.nodes < node_end }
         ensures at { (k : ℕ) → k < key_end → IsAt self.new.nodes result.0 k }
         ensures few { length (node self.new.nodes result.0).entries ≡ 1 }
         ensures level { (node self.new.nodes result.0).level ≡ self.new.top }
@@ -161,10 +162,10 @@ impl Tree {
     /// new root.
     fn head(&mut self, key: u16) -> NodeId
         requires room { self.old.top + 2 ≤ self.old.room }
-        requires level { self.old.top + 1 < 2 ^ 16 }
-        requires number { length self.old.nodes + self.old.top + 2 ≤ 2 ^ 32 }
+        requires level { self.old.top + 1 < level_end }
+        requires number { length self.old.nodes + self.old.top + 2 ≤ node_end }
         ensures at { IsAt self.new.nodes result.0 key }
-        ensures few { length (node self.new.nodes result.0).entries < 8 }
+        ensures few { length (node self.new.nodes result.0).entries < most_entries }
         ensures room { (node self.new.nodes result.0).level ≤ self.new.room }
         ensures nodes { length self.new.nodes + (node self.new.nodes result.0).level ≤ length self.old.nodes +
             self.old.top + 2 }
@@ -182,10 +183,10 @@ impl Tree {
         requires at { IsAt self.old.nodes parent.0 key }
         requires above { 1 ≤ (node self.old.nodes parent.0).level }
         requires leads { LeadsTo key (node self.old.nodes parent.0).entries child.0 }
-        requires few { length (node self.old.nodes parent.0).entries < 8 }
-        requires full { length (node self.old.nodes child.0).entries ≡ 8 }
+        requires few { length (node self.old.nodes parent.0).entries < most_entries }
+        requires full { length (node self.old.nodes child.0).entries ≡ most_entries }
         requires room { 1 ≤ self.old.room }
-        requires number { length self.old.nodes < 2 ^ 32 }
+        requires number { length self.old.nodes < node_end }
         ensures number { result.0 ≡ length self.old.nodes }
         ensures lower { node self.new.nodes child.0 ≡ lower_half (node self.old.nodes child.0) }
         ensures upper { node self.new.nodes result.0 ≡ upper_half (node self.old.nodes child.0) }
@@ -208,12 +209,12 @@ impl Tree {
     fn step(&mut self, id: NodeId, key: u16) -> NodeId
         requires at { IsAt self.old.nodes id.0 key }
         requires above { 1 ≤ (node self.old.nodes id.0).level }
-        requires few { length (node self.old.nodes id.0).entries < 8 }
+        requires few { length (node self.old.nodes id.0).entries < most_entries }
         requires room { 1 ≤ self.old.room }
-        requires number { length self.old.nodes < 2 ^ 32 }
+        requires number { length self.old.nodes < node_end }
         ensures at { IsAt self.new.nodes result.0 key }
         ensures level { (node self.new.nodes result.0).level + 1 ≡ (node self.old.nodes id.0).level }
-        ensures few { length (node self.new.nodes result.0).entries < 8 }
+        ensures few { length (node self.new.nodes result.0).entries < most_entries }
         ensures top { self.new.top ≡ self.old.top }
         ensures nodes { length self.new.nodes ≤ length self.old.nodes + 1 }
         ensures room { length self.new.nodes + self.new.room ≡ length self.old.nodes + self.old.room }
@@ -232,14 +233,14 @@ impl Tree {
     }
 
     /// The number of the node of level 0 that has a key, with a place for one entry more. The full nodes on the way are
-    /// cut from the last one above them that has a place, for each of them would get a ninth entry.
+    /// cut from the last one above them that has a place, for each of them would get an entry too many.
     pub fn make_way(&mut self, key: u16) -> NodeId
         requires room { self.old.top + 2 ≤ self.old.room }
-        requires level { self.old.top + 1 < 2 ^ 16 }
-        requires number { length self.old.nodes + self.old.top + 2 ≤ 2 ^ 32 }
+        requires level { self.old.top + 1 < level_end }
+        requires number { length self.old.nodes + self.old.top + 2 ≤ node_end }
         ensures at { IsAt self.new.nodes result.0 key }
         ensures leaf { (node self.new.nodes result.0).level ≡ 0 }
-        ensures few { length (node self.new.nodes result.0).entries < 8 }
+        ensures few { length (node self.new.nodes result.0).entries < most_entries }
         ensures top { self.new.top ≤ self.old.top + 1 }
         ensures nodes { length self.new.nodes ≤ length self.old.nodes + self.old.top + 2 }
         ensures holds { (lows : List ℕ) → Holds lows self.old.nodes → Holds lows self.new.nodes }
@@ -255,7 +256,7 @@ impl Tree {
     pub fn put(&mut self, id: NodeId, entry: IndexEntry)
         requires at { IsAt self.old.nodes id.0 entry.low }
         requires leaf { (node self.old.nodes id.0).level ≡ 0 }
-        requires few { length (node self.old.nodes id.0).entries < 8 }
+        requires few { length (node self.old.nodes id.0).entries < most_entries }
         requires fresh { All (λ (e : IndexEntry). e.low ≢ entry.low) (node self.old.nodes id.0).entries }
         ensures top { self.new.top ≡ self.old.top }
         ensures nodes { length self.new.nodes ≡ length self.old.nodes }

@@ -1,8 +1,9 @@
 //! The wireframe of a node.
-ghost use Rattle.std.specs.Prelude.{◌≡◌, ◌==◌, ◌↔◌, ◌+◌, ◌^◌, ◌<◌, ◌≤◌, ◌++◌, ◌∷◌, [], OnOk, OnErr, IfOk, IfSome, IsOk};
+ghost use Rattle.std.specs.Prelude.{◌≡◌, ◌==◌, ◌↔◌, ◌+◌, ◌<◌, ◌≤◌, ◌++◌, ◌∷◌, [], OnOk, OnErr, IfOk, IfSome, IsOk};
 ghost use Rattle.std.specs.Prelude.{Err, Contains, ℕ, length, slice_index};
 ghost use Rattle.zy_model.specs.Wireframe.{IsGreatest, IsNextLow, IsAfter};
 ghost use Rattle.zy_model.specs.Wireframe as spec;
+ghost use Rattle.zy_wire.specs.Nodes.{page_end};
 ghost use Rattle.zy_wire.specs.Ranges.{in_range};
 
 use crate::entry::IndexEntry;
@@ -90,7 +91,7 @@ impl Wire {
         ensures value { result ≡ length self.now.lows }
         ensures some { 1 ≤ result }
         ensures few { result ≤ self.now.pages }
-        ensures numbered { result < 2 ^ 16 }
+        ensures numbered { result < page_end }
     {
         // Proof: there may be at most as many as a `u16` counts.
         let _pages = self.pages;

@@ -1,5 +1,6 @@
 use Rattle.std.proofs.Common.{ap, ◌∙◌, length-drop, arith, rules}
 use Rattle.zy_wire.specs.declared.entry.IndexEntry.{IndexEntry}
+use Rattle.zy_wire.specs.Nodes.{kept_entries}
 use Rattle.zy_wire.proofs.Cut.{Ready, full_of, child_there, child_full, Written, Writes, Cut-made, IsTree-cut, Holds-cut}
 use Rattle.zy_wire.proofs.tree.Tree.cut.Goals as goal
 
@@ -25,7 +26,7 @@ low-low-requires c =
     let r : Ready c.self.inside.nodes.items c.self.inside.root.0 c.self.inside.top c.args.parent.0 c.args.child.0 c.args.key =
     record { tree = c.self.invariant; at = was.at; above = was.above; leads = was.leads; full = was.full } in
     let full = child_full _ _ _ _ _ _ r c.index.result c.index_mut.result.now c.index.ensures c.index_mut.ensures.value in
-    rw c.cut-upper.ensures.upper (omega (arith, length-drop 4 c.index_mut.result.now.entries))
+    rw c.cut-upper.ensures.upper (omega (arith, length-drop kept_entries c.index_mut.result.now.entries))
 
 pub invariant_of-self : goal.invariant_of-self
 invariant_of-self c =
