@@ -4,3 +4,4 @@ pub mod Canon
 pub mod Text
 pub mod Lines
 pub mod Cut
+pub mod Usual

@@ -1,10 +1,10 @@
 //! The lines that most schedules have most of, which are cut at fixed places.
-ghost use Rattle.std.specs.Prelude.{◌≡◌, ◌<◌, ◌≤◌, ◌+◌, ◌∷◌, [], IfSome, length, codes, true};
-ghost use Rattle.zy_isa.specs.Choices.{names_below};
+ghost use Rattle.std.specs.Prelude.{◌≡◌, ◌<◌, ◌≤◌, ◌+◌, ◌∷◌, [], IfSome, codes, true};
 ghost use Rattle.std.specs.Fmt.{decimal};
-ghost use Rattle.zy_text.specs.Words.{lines_of, words_of};
-ghost use Rattle.zy_text.specs.Lines.{first_line, lines_below};
-ghost use Rattle.zy_text.specs.Canon.{choice_words, node_text};
+ghost use Rattle.zy_text.specs.Words.{words_of};
+ghost use Rattle.zy_text.specs.Lines.{first_line};
+ghost use Rattle.zy_text.specs.Canon.{node_text};
+ghost use Rattle.zy_text.specs.Usual.{IsUsual, IsBelow};
 
 use zy_isa::{Choice, Node};
 
@@ -21,10 +21,8 @@ pub struct UsualLine<'a> {
 /// a transaction below `count` and 100, or none.
 #[inline(always)]
 pub fn usual_line(count: usize, text: &[u8]) -> Option<UsualLine<'_>>
-    ensures words { IfSome result (λ r. words_of (first_line text.entry.now) ≡ choice_words r.choice) }
-    ensures named { IfSome result (λ r. names_below count r.choice ≡ true) }
-    ensures below { IfSome result (λ r. lines_of r.below.now ≡ lines_below text.entry.now) }
-    ensures shorter { IfSome result (λ r. length r.below.now < length text.entry.now) }
+    ensures line { IfSome result (λ r. IsUsual count (words_of (first_line text.entry.now)) r.choice) }
+    ensures below { IfSome result (λ r. IsBelow text.entry.now r.below.now) }
 {
     match text {
         [b'C', b' ', rest @ ..] => client_line(count, rest),
@@ -48,10 +46,8 @@ fn node_of(letter: u8) -> Option<Node>
 /// The choice of the client whose words behind `C` are a text's first line.
 #[inline(always)]
 fn client_line(count: usize, text: &[u8]) -> Option<UsualLine<'_>>
-    ensures words { IfSome result (λ r. codes "C" ∷ words_of (first_line text.entry.now) ≡ choice_words r.choice) }
-    ensures named { IfSome result (λ r. names_below count r.choice ≡ true) }
-    ensures below { IfSome result (λ r. lines_of r.below.now ≡ lines_below text.entry.now) }
-    ensures shorter { IfSome result (λ r. length r.below.now < length text.entry.now) }
+    ensures line { IfSome result (λ r. IsUsual count (codes "C" ∷ words_of (first_line text.entry.now)) r.choice) }
+    ensures below { IfSome result (λ r. IsBelow text.entry.now r.below.now) }
 {
     let [b'b', b'e', b'g', b'i', b'n', b' ', rest @ ..] = text else {
         return None;
@@ -66,10 +62,8 @@ fn client_line(count: usize, text: &[u8]) -> Option<UsualLine<'_>>
 /// The choice of a node whose words behind the node are a text's first line.
 #[inline(always)]
 fn node_line(node: Node, count: usize, text: &[u8]) -> Option<UsualLine<'_>>
-    ensures words { IfSome result (λ r. node_text node ∷ words_of (first_line text.entry.now) ≡ choice_words r.choice) }
-    ensures named { IfSome result (λ r. names_below count r.choice ≡ true) }
-    ensures below { IfSome result (λ r. lines_of r.below.now ≡ lines_below text.entry.now) }
-    ensures shorter { IfSome result (λ r. length r.below.now < length text.entry.now) }
+    ensures line { IfSome result (λ r. IsUsual count (node_text node ∷ words_of (first_line text.entry.now)) r.choice) }
+    ensures below { IfSome result (λ r. IsBelow text.entry.now r.below.now) }
 {
     let [a, b, c, d, rest @ ..] = text else {
         return None;
@@ -116,8 +110,7 @@ struct LastNumber<'a> {
 fn last_number(count: usize, text: &[u8]) -> Option<LastNumber<'_>>
     ensures words { IfSome result (λ r. words_of (first_line text.entry.now) ≡ decimal r.value ∷ []) }
     ensures named { IfSome result (λ r. r.value < count) }
-    ensures below { IfSome result (λ r. lines_of r.below.now ≡ lines_below text.entry.now) }
-    ensures shorter { IfSome result (λ r. length r.below.now < length text.entry.now) }
+    ensures below { IfSome result (λ r. IsBelow text.entry.now r.below.now) }
 {
     match text {
         [ones, b'\n', below @ ..] => {

@@ -4,9 +4,9 @@ ghost use Rattle.zy_isa.specs.Limits.{max_instrs, max_choices};
 ghost use Rattle.zy_asm.specs.Pending.{pending_of, whole};
 ghost use Rattle.zy_asm.specs.Reading.{line_step};
 ghost use Rattle.zy_asm.specs.Reading.Progress.{progress_of};
-ghost use Rattle.zy_text.specs.Canon.{choice_words};
-ghost use Rattle.zy_text.specs.Words.{lines_of, words_of};
-ghost use Rattle.zy_text.specs.Lines.{first_line, first_words, lines_below};
+ghost use Rattle.zy_text.specs.Words.{words_of};
+ghost use Rattle.zy_text.specs.Lines.{first_line, first_words};
+ghost use Rattle.zy_text.specs.Usual.{IsBelow};
 
 use crate::instructions::whole_of;
 use crate::state::{Reader, Stage};
@@ -20,8 +20,7 @@ impl Reader {
     pub fn take_usual<'a>(&mut self, text: &'a [u8]) -> Option<&'a [u8]>
         ensures step { IfSome result (λ below. line_step (progress_of self.old) (first_words (words_of (first_line text.entry.now)))
             ≡ Ok (progress_of self.new)) }
-        ensures below { IfSome result (λ below. lines_of below.now ≡ lines_below text.entry.now) }
-        ensures shorter { IfSome result (λ below. length below.now < length text.entry.now) }
+        ensures below { IfSome result (λ below. IsBelow text.entry.now below.now) }
         ensures other { result ≡ None → progress_of self.new ≡ progress_of self.old }
     {
         if self.stage != Stage::Choices {

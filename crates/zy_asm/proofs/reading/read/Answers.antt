@@ -17,12 +17,11 @@ loop-words-preserved-in-Some c =
     let rest = c.loop-words.rest.now in
     let step = rw c.in-Some.is at c.take_usual.ensures.step in
     let below = rw c.in-Some.is at c.take_usual.ensures.below in
-    let shorter = rw c.in-Some.is at c.take_usual.ensures.shorter in
     record {
       same = line_done (progress_of c.loop-words.reader) (progress_of c.take_usual.new.self) c.loop-words.line (lines_of rest)
           (lines_of c.in-Some.below.now) (first_line rest) (reading c.args.text.now)
-          c.loop-words.invariant.same (line_taken rest c.in-Some.below.now some below) step;
-      few = omega (arith, shorter, c.loop-words.invariant.few);
+          c.loop-words.invariant.same (line_taken rest c.in-Some.below.now some below.lines) step;
+      few = omega (arith, below.shorter, c.loop-words.invariant.few);
     }
 
 pub loop-words-preserved : goal.loop-words-preserved

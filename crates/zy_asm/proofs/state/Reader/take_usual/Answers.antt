@@ -16,5 +16,5 @@ returns-clause-step c =
     let few : length s.choices < 4096 = search rules in
     let most : length s.programs ≤ 64 = search rules in
     let whole : first_words (choice_words choice) ≡ choice_words choice = search rules in
-    ap (λ ws. line_step s (first_words ws)) c.in_ok-line.ensures.words ∙ ap (line_step s) whole
+    ap (λ ws. line_step s (first_words ws)) c.in_ok-line.ensures.line.spelled ∙ ap (line_step s) whole
     ∙ (choice_taken s choice here few most (search rules) ∙ search rules)
