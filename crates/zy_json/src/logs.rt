@@ -1,8 +1,9 @@
 //! Reads the lines of a text as lines of a log in JSON.
-ghost use Rattle.std.specs.Prelude.{◌≡◌, ◌==◌, ◌<◌, ◌+◌, ◌^◌, ◌∷◌, ◌++◌, OnOk, length, position};
+ghost use Rattle.std.specs.Prelude.{◌≡◌, ◌==◌, ◌<◌, ◌+◌, ◌∷◌, ◌++◌, OnOk, length, position};
 ghost use Rattle.std.specs.List.{list_all};
 ghost use Rattle.zy_text.specs.Words as words;
 ghost use Rattle.zy_text.specs.Words.{lines_of};
+ghost use Rattle.zy_text.specs.Lines.{line_number_end};
 ghost use Rattle.zy_io.specs.Writing.{line_of};
 ghost use Rattle.zy_json.specs.Logs.{ReadsObjects, Says, SaysNumbered};
 
@@ -93,7 +94,7 @@ fn put_line(logs: &mut Vec<u8>, log: &[u8]) -> Result<(), AllocError>
 /// it, or has nothing but spaces, and then it tells an empty line: so what goes out has a line for each, in its place. The first line
 /// that is neither is reported.
 pub fn read_objects(alloc: Global, first: usize, text: &[u8]) -> Result<Vec<u8>, JsonLogFault>
-    requires { first + length text.now < 2 ^ 64 }
+    requires { first + length text.now < line_number_end }
     ensures { ReadsObjects first text.now result }
 {
     let mut scratch = Scratch::new(alloc);

@@ -1,7 +1,7 @@
 //! Reads the lines of logs of a text.
-ghost use Rattle.std.specs.Prelude.{◌≡◌, ◌≤◌, ◌<◌, ◌+◌, ◌^◌, length};
+ghost use Rattle.std.specs.Prelude.{◌≡◌, ◌≤◌, ◌<◌, ◌+◌, length};
 ghost use Rattle.zy_isa.specs.Limits.{max_txns};
-ghost use Rattle.zy_text.specs.Lines.{texts};
+ghost use Rattle.zy_text.specs.Lines.{texts, line_number_end};
 ghost use Rattle.zy_text.specs.Words as text_words;
 ghost use Rattle.zy_logs.specs.Logs as spec;
 ghost use Rattle.zy_logs.specs.Logs.{Reads, TakesLine};
@@ -90,7 +90,7 @@ pub fn read_logs(
     text: &[u8],
 ) -> Result<Vec<NumberedLine>, LogFault>
     requires few { txns.count ≤ max_txns }
-    requires numbers { first + length text.now < 2 ^ 64 }
+    requires numbers { first + length text.now < line_number_end }
     ensures { Reads result (spec.logs_of txns.entry gap most first text.now) }
 {
     let mut reader = LogReader {

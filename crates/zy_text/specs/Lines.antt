@@ -1,11 +1,15 @@
 -- A text's first line, its words, and what is below it.
-use Rattle.std.specs.Prelude.{ℕ, ◌==◌, ◌||◌, Bool, List, [], map, take, drop, get_or}
+use Rattle.std.specs.Prelude.{ℕ, ◌==◌, ◌||◌, ◌^◌, Bool, List, [], map, take, drop, get_or}
 use Rattle.std.specs.Borrow.{Bor}
 use Rattle.zy_text.specs.Words.{is_space, lines_of}
 
 -- the words that references point to
 abbrev pub texts : List (Bor (List ℕ)) → List (List ℕ)
 texts ws = map (λ w. w.now) ws
+
+-- the least number above that of every line
+abbrev pub line_number_end : ℕ
+line_number_end = 2 ^ 64
 
 abbrev pub first_line : List ℕ → List ℕ
 first_line text = get_or (lines_of text) 0 []
