@@ -6,6 +6,7 @@ use Rattle.std.specs.Char.{is_ascii_digit}
 use Rattle.std.specs.Str.{all_ascii_digits}
 use Rattle.std.proofs.lemmas.Bool.{le-leb, lt-ltb}
 use borrow.Author.Tests.{tests}
+use Rattle.zy_isa.specs.Limits.{max_key, max_txns}
 use Rattle.zy_isa.specs.declared.node.Node.{Node}
 use Rattle.zy_isa.specs.declared.node.Node.TheVariants.{A, B}
 use Rattle.zy_isa.specs.declared.choice.Choice.{Choice}
@@ -97,14 +98,14 @@ page_given : (p : ℕ) (rest : List Word) → IsPage p → or_none page (decimal
 page_given p rest h =
     let few : p < 2 ^ 32 = omega (arith, h) in
     given page (decimal p ∷ rest) rest p (goes_on (decimal p) rest (decimal_digits p few))
-    (number_given 65535 p (decimal p) rest (number_of-decimal p few) h)
+    (number_given max_key p (decimal p) rest (number_of-decimal p few) h)
 
 -- the number of a commit
-place_given : (i : ℕ) (rest : List Word) → i ≤ 64 → or_none place (decimal i ∷ rest) ≡ Ok (Some i, rest)
+place_given : (i : ℕ) (rest : List Word) → i ≤ max_txns → or_none place (decimal i ∷ rest) ≡ Ok (Some i, rest)
 place_given i rest h =
     let few : i < 2 ^ 32 = omega (arith, h) in
     given place (decimal i ∷ rest) rest i (goes_on (decimal i) rest (decimal_digits i few))
-    (number_given 64 i (decimal i) rest (number_of-decimal i few) h)
+    (number_given max_txns i (decimal i) rest (number_of-decimal i few) h)
 
 -- a transaction by its number
 txn_given : (txns : Txns) (t : ℕ) (rest : List Word) → txns.count ≤ 64 → t < txns.count → txn txns (decimal t ∷ rest) ≡ Ok (t, rest)

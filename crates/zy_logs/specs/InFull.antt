@@ -1,6 +1,7 @@
 -- The line of a log that tells all of a step, and the outcomes that such a line can tell.
 use Rattle.std.specs.Prelude.{ℕ, ◌≤◌, ◌<◌, ◌++◌, List, [], ◌∷◌, codes, Option, Some, None}
 use Rattle.std.specs.Fmt.{decimal}
+use Rattle.zy_isa.specs.Limits.{max_key, max_txns}
 use Rattle.zy_model.specs.declared.kind.Kind.{Kind}
 use Rattle.zy_model.specs.declared.kind.Kind.TheVariants as kind
 use Rattle.zy_table.specs.declared.entry.Entry.{Entry}
@@ -19,7 +20,7 @@ in_full e = record { choice = e.choice; told = Some (exactly e.outcome); sent = 
 
 -- a line may give this number for a page or a key
 abbrev pub IsPage : ℕ → Type 0
-IsPage p = p ≤ 65535
+IsPage p = p ≤ max_key
 
 -- the same of a reason's page
 abbrev pub HasPage : Why → Type 0
@@ -31,7 +32,7 @@ HasPage w = Unit {0}
 abbrev pub IsTold : ℕ → Outcome → Type 0
 IsTold count (outcome.Split p q k) = IsPage p × IsPage q × IsPage k
 IsTold count (outcome.Aborted w) = HasPage w
-IsTold count (outcome.Committed i) = i ≤ 64
+IsTold count (outcome.Committed i) = i ≤ max_txns
 IsTold count (outcome.Waits p) = IsPage p
 IsTold count (outcome.Pulls p) = IsPage p
 IsTold count (outcome.Awaits p) = IsPage p

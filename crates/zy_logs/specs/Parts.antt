@@ -1,5 +1,6 @@
 -- Numbers, nodes, reasons and transactions, and which of them may be left out.
 use Rattle.std.specs.Prelude.{ℕ, List, codes, nat_le, nat_lt, Option, Some, None, Ok, if◌then◌else◌}
+use Rattle.zy_isa.specs.Limits.{max_key, max_txns}
 use Rattle.zy_isa.specs.declared.node.Node.{Node}
 use Rattle.zy_isa.specs.Results.{◌>>=◌}
 use Rattle.zy_text.specs.Words.{number_of, is_numeral}
@@ -28,11 +29,11 @@ number most ws = do
 
 -- P, and B of a split
 abbrev pub page : List Word → Read ℕ
-page ws = number 65535 ws
+page ws = number max_key ws
 
 -- I
 abbrev pub place : List Word → Read ℕ
-place ws = number 64 ws
+place ws = number max_txns ws
 
 -- the number of one of `count` transactions
 abbrev pub numbered : ℕ → List Word → Read ℕ
