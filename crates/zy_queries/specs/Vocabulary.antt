@@ -3,6 +3,7 @@ use Rattle.std.specs.Prelude.{ℕ, ◌||◌, ◌&&◌, not, nat_le, Bool, codes,
 use Rattle.std.specs.Prelude.{if◌then◌else◌}
 use Rattle.std.specs.Option.{option_and_then}
 use Rattle.std.specs.Str.{bytes_eq}
+use Rattle.zy_isa.specs.Limits.{max_key, max_txns}
 use Rattle.zy_isa.specs.declared.node.Node.{Node}
 use Rattle.zy_isa.specs.declared.node.Node.TheVariants.{A, B}
 use Rattle.zy_model.specs.declared.mode.NodeMode.{NodeMode}
@@ -108,11 +109,11 @@ number w = number_to 9999999999 w
 
 -- K and P: a key, or the number of a page
 abbrev pub key : Word → Option ℕ
-key w = number_to 65535 w
+key w = number_to max_key w
 
 -- I: a place in commit order
 abbrev pub place_in_order : Word → Option ℕ
-place_in_order w = number_to 64 w
+place_in_order w = number_to max_txns w
 
 -- the greatest number of a transaction
 abbrev pub max_txn : ℕ
