@@ -1,7 +1,11 @@
--- The eight registers.
+-- The registers.
 use Rattle.std.specs.Prelude.{ℕ, List, [], ◌∷◌}
 use Rattle.zy_isa.specs.declared.instr.Reg.{Reg}
 use Rattle.zy_isa.specs.declared.instr.Reg.TheVariants.{R0, R1, R2, R3, R4, R5, R6, R7}
+
+-- how many registers there are
+abbrev pub register_count : ℕ
+register_count = 8
 
 abbrev pub number_of : Reg → ℕ
 number_of R0 = 0

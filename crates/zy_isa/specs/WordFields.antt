@@ -11,7 +11,7 @@ use Rattle.zy_isa.specs.declared.operation.Operation.TheVariants as op
 use Rattle.zy_isa.specs.declared.operation.LoneOperation.TheVariants.{Abort}
 use Rattle.zy_isa.specs.declared.operation.Parts.{Parts}
 use Rattle.zy_isa.specs.declared.operation.Parts.TheVariants.{Number, Pair, Jump, Lone}
-use Rattle.zy_isa.specs.Registers.{number_of, registers}
+use Rattle.zy_isa.specs.Registers.{number_of, register_count, registers}
 use Rattle.zy_isa.specs.Operations.{coded, instr_with}
 
 abbrev pub register_at : ℕ → Option Reg
@@ -44,7 +44,7 @@ decoded w = if get_or w 3 0 == 0 then instr_at (coded (get_or w 0 0)) (get_or w 
 -- ---- a word that is known to be one: no field is tested
 
 abbrev pub register_in : ℕ → Reg
-register_in n = unwrap_or (register_at (n % 8)) R7
+register_in n = unwrap_or (register_at (n % register_count)) R7
 
 abbrev pub operation_in : ℕ → Operation
 operation_in n = unwrap_or (coded n) (op.Lone Abort)

@@ -1,11 +1,14 @@
 //! Registers and instructions.
 ghost use Rattle.std.specs.Prelude.{◌≡◌, ◌<◌};
-ghost use Rattle.zy_isa.specs.Registers.{number_of};
+ghost use Rattle.zy_isa.specs.Registers.{number_of, register_count};
 ghost use Rattle.zy_isa.specs.Operations.{has};
 ghost use Rattle.zy_isa.specs.Programs as spec;
 
 use crate::operation::Parts;
 use crate::version::Version;
+
+/// How many registers a transaction has.
+pub const REGISTERS: usize = 8;
 
 /// A register of a transaction. All are 0 when it begins.
 #[derive(Clone, Copy)]
@@ -45,10 +48,10 @@ pub enum Instr {
 }
 
 impl Reg {
-    /// The register's number, for an index into eight.
+    /// The register's number, for an index into all of them.
     pub fn index(self) -> usize
         ensures value { result ≡ number_of self }
-        ensures bound { result < 8 }
+        ensures bound { result < register_count }
     {
         match self {
             Reg::R0 => 0,

@@ -13,7 +13,7 @@ pub mod version;
 pub mod word;
 
 pub use crate::choice::Choice;
-pub use crate::instr::{Instr, Reg};
+pub use crate::instr::{Instr, REGISTERS, Reg};
 pub use crate::node::{Actor, Node};
 pub use crate::operation::{
     JumpOperation, LoneOperation, NumberOperation, Operation, PairOperation, Parts,

@@ -1,5 +1,5 @@
 -- Who may begin: a transaction, and a migration.
-use Rattle.std.specs.Prelude.{ℕ, ◌≡◌, [], replicate, false}
+use Rattle.std.specs.Prelude.{ℕ, ◌≡◌, [], false}
 use Rattle.zy_isa.specs.declared.node.Node.{Node}
 use Rattle.zy_isa.specs.declared.node.Node.TheVariants.{A}
 use Rattle.zy_isa.specs.declared.choice.Choice.TheVariants.{Begin}
@@ -10,13 +10,14 @@ use Rattle.zy_model.specs.declared.mode.NodeMode.TheVariants.{Empty, Normal}
 use Rattle.zy_table.specs.declared.outcome.Outcome.TheVariants as outcome
 use Rattle.zy_table.specs.declared.status.Status.TheVariants.{Active}
 use Rattle.zy_table.specs.State.{State, Txn, facing}
+use Rattle.zy_table.specs.Change.{fresh_registers}
 use Rattle.zy_table.specs.Play.{step}
 use Rattle.zy_outcomes.specs.Accounts.{txn_of}
 
--- a transaction that has just begun at n: its first instruction is next, its eight registers are 0, it has no private
+-- a transaction that has just begun at n: its first instruction is next, its registers are 0, it has no private
 -- row and has done nothing
 abbrev pub fresh : Node → Txn
-fresh n = record { status = Active; node = n; pc = 0; regs = replicate 8 0; rows = []; done = 0 }
+fresh n = record { status = Active; node = n; pc = 0; regs = fresh_registers; rows = []; done = 0 }
 
 -- t begins at a node that is not idle, and hands over no page
 pub record Begins (sc : Scenario) (s : State) (t : ℕ) : Type 0 where

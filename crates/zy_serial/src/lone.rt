@@ -1,9 +1,9 @@
 //! One program, run alone on a table.
 ghost use Rattle.std.specs.Prelude.{◌≡◌, ◌+◌, ◌<◌, ◌%◌, ◌^◌, [], true, false, IfOk, IsOk, IsSome, OnOk, if◌then◌else◌};
-ghost use Rattle.std.specs.Prelude.{replicate, slice_get};
+ghost use Rattle.std.specs.Prelude.{slice_get};
 ghost use Rattle.std.specs.FinMap.{get};
 ghost use Rattle.zy_isa.specs.Rows.{get_row, put_row};
-ghost use Rattle.zy_table.specs.Change.{with_reg};
+ghost use Rattle.zy_table.specs.Change.{fresh_registers, with_reg};
 ghost use Rattle.zy_table.specs.Database.{laid};
 ghost use Rattle.zy_table.specs.declared.effect.Effect.TheVariants.{Accesses, Sums};
 ghost use Rattle.zy_table.specs.declared.access.Access.TheVariants.{Reads, Writes, Inserts};
@@ -14,7 +14,7 @@ ghost use Rattle.zy_serial.specs.Lone.{map_of, on_map};
 use crate::table::Table;
 use std::alloc::{AllocError, Global};
 use std::marker::Model;
-use zy_isa::{Program, Reg};
+use zy_isa::{Program, REGISTERS, Reg};
 use zy_node::sums::sum_of_rows;
 use zy_page::RowList;
 use zy_table::effect::effect_of;
@@ -44,7 +44,7 @@ pub(crate) fn written(
 /// A run so far. What it writes is kept from the table until it ends.
 #[derive(Drop)]
 struct LoneRun {
-    regs: [u32; 8],
+    regs: [u32; REGISTERS],
     pc: u32,
     rows: RowList,
     over: bool,
@@ -61,10 +61,10 @@ impl Model for LoneRun {
 impl LoneRun {
     /// A run before its first instruction. It takes no memory.
     fn new(alloc: Global) -> LoneRun
-        ensures { result ≡ record { regs = replicate 8 0; pc = 0; rows = []; over = false } }
+        ensures { result ≡ record { regs = fresh_registers; pc = 0; rows = []; over = false } }
     {
         LoneRun {
-            regs: [0; 8],
+            regs: [0; REGISTERS],
             pc: 0,
             rows: RowList::new(alloc),
             over: false,

@@ -10,7 +10,7 @@ ghost use Rattle.zy_table.specs.State.{facing};
 use crate::codes::{mode_code, status_code, status_page};
 use crate::packing::{Packed, put_items, put_number};
 use std::alloc::{AllocError, Global};
-use zy_isa::{Node, Row};
+use zy_isa::{Node, REGISTERS, Row};
 use zy_machine::Machine;
 use zy_node::OwnedPages;
 use zy_page::Page;
@@ -96,7 +96,7 @@ fn put_first_progress(rows: &[Row], out: &mut Vec<u8>) -> Result<(), AllocError>
         ++ (spec.numbers nobody.regs ++ (spec.items spec.row rows.now ++ spec.number 0)))) }
 {
     put_number(0, out)?;
-    put_items(&[0_u32; 8], out)?;
+    put_items(&[0_u32; REGISTERS], out)?;
     put_items(rows, out)?;
     put_number(0, out)
 }

@@ -4,7 +4,7 @@ ghost use Rattle.zy_table.specs.Change as table_change;
 ghost use Rattle.zy_table.specs.Effects as table_effects;
 
 use crate::access::Access;
-use zy_isa::{Instr, Reg};
+use zy_isa::{Instr, REGISTERS, Reg};
 
 /// What an instruction does, once its registers are read.
 #[derive(Clone, Copy)]
@@ -57,7 +57,7 @@ macro_rules! with_effect {
 
 /// What an instruction does with these registers.
 #[inline(always)]
-pub fn effect_of(instr: Instr, regs: &[u32; 8]) -> Effect
+pub fn effect_of(instr: Instr, regs: &[u32; REGISTERS]) -> Effect
     ensures { result ≡ table_effects.effect_of instr regs.now }
 {
     with_effect!(instr, regs, |effect| effect)
@@ -65,7 +65,7 @@ pub fn effect_of(instr: Instr, regs: &[u32; 8]) -> Effect
 
 /// The value of a register.
 #[inline(always)]
-pub fn reg(regs: &[u32; 8], r: Reg) -> u32
+pub fn reg(regs: &[u32; REGISTERS], r: Reg) -> u32
     ensures { result ≡ table_change.reg regs.now r }
 {
     regs[r.index()]

@@ -7,7 +7,7 @@ use Rattle.std.proofs.Math.ListN.{length-set}
 use Rattle.std.proofs.lemmas.Bool.{cases_Bool, cases_eq, cases_lt, false≢true, ltb-true, not-false}
 use Rattle.std.proofs.lemmas.Option.{slice_get_within}
 use Rattle.zy_isa.specs.Programs.{IsProgram, ends, ends_well, targets_below}
-use Rattle.zy_isa.specs.Registers.{number_of}
+use Rattle.zy_isa.specs.Registers.{number_of, register_count}
 use Rattle.zy_isa.specs.Scenario.{Scenario}
 use Rattle.zy_isa.specs.declared.instr.Instr.{Instr}
 use Rattle.zy_isa.specs.declared.instr.Reg.{Reg}
@@ -58,7 +58,7 @@ next_within program i x v at on =
 -- what may become of one transaction
 pub data Fate (sc : Scenario) (u : ℕ) (x y : Txn) : Type 0 where
   Same : y ≡ x → Fate sc u x y
-  Fresh : y.done ≡ 0 → length y.regs ≡ 8 → y.pc ≡ 0 → Fate sc u x y
+  Fresh : y.done ≡ 0 → length y.regs ≡ register_count → y.pc ≡ 0 → Fate sc u x y
   Ends : y.done ≤ x.done + 1 → y.regs ≡ x.regs → y.pc ≡ x.pc → Fate sc u x y
   Went : y.done ≡ x.done + 1 → length y.regs ≡ length x.regs → (IsProgram (program_of sc u) → y.pc < length (program_of sc u)) → Fate sc u x y
 

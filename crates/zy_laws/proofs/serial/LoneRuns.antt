@@ -1,6 +1,6 @@
 -- A lone run over a database that it leaves as it is: what it wrote is in rows of its own.
 use Rattle.std.proofs.Common.{Bool, List, [], ap, arith, false, inl, inr, refl, suc, sym, true, zero, ℕ, ◌%◌, ◌++◌, ◌+◌, ◌^◌, ◌∙◌, ◌∷◌, ◌≡◌, ◌≤◌}
-use Rattle.std.specs.Prelude.{None, Option, Some, if◌then◌else◌, is_some, nat_lt, not, replicate, slice_get, unwrap_or, ◌==◌}
+use Rattle.std.specs.Prelude.{None, Option, Some, if◌then◌else◌, is_some, nat_lt, not, slice_get, unwrap_or, ◌==◌}
 use Rattle.std.specs.FinMap.{get, get-insert, insert, nat_cmp-IsAntisymmetric, same_map}
 use Rattle.std.specs.Ordering.{eq_by_cmp, nat_cmp}
 use Rattle.std.proofs.Math.Nat.{eq-or-lt_of_le}
@@ -13,7 +13,7 @@ use Rattle.zy_isa.specs.declared.instr.Reg.{Reg}
 use Rattle.zy_isa.specs.declared.row.Row.{Row}
 use Rattle.zy_table.specs.declared.access.Access.{Access}
 use Rattle.zy_table.specs.declared.access.Access.TheVariants.{Reads, Writes, Inserts}
-use Rattle.zy_table.specs.Change.{with_reg}
+use Rattle.zy_table.specs.Change.{fresh_registers, with_reg}
 use Rattle.zy_table.specs.Database.{Map, laid}
 use Rattle.zy_table.specs.declared.effect.Effect.{Effect}
 use Rattle.zy_table.specs.declared.effect.Effect.TheVariants.{Sets, Jumps, Accesses, Sums, Commits, Aborts}
@@ -97,7 +97,7 @@ lone_step d program x = if x.over then x else lone_instr d (slice_get program x.
 
 -- a lone run at its begin
 abbrev pub fresh : Lone
-fresh = record { regs = replicate 8 0; pc = 0; rows = []; keys = []; over = false }
+fresh = record { regs = fresh_registers; pc = 0; rows = []; keys = []; over = false }
 
 -- a lone run of n steps
 abbrev pub lone : Map → List Instr → ℕ → Lone
