@@ -3,13 +3,14 @@ use Rattle.std.specs.Prelude.{ℕ, ◌&&◌, nat_le, List, [], ◌∷◌, codes,
 use Rattle.std.specs.Option.{option_and_then}
 use Rattle.std.specs.Str.{bytes_eq}
 use Rattle.zy_text.specs.Words.{number_of}
+use Rattle.zy_isa.specs.Integers.{max_u32}
 use Rattle.zy_isa.specs.declared.node.Node.TheVariants.{A, B}
 use Rattle.zy_debug.specs.declared.command.Command.{Command}
 use Rattle.zy_debug.specs.declared.command.Command.TheVariants as command
 
 -- the greatest number of a command
 abbrev pub max_number : ℕ
-max_number = 4294967295
+max_number = max_u32
 
 -- the number that 1 to 10 digits spell, where a command may have it
 abbrev pub small : ℕ → Option ℕ

@@ -1,3 +1,4 @@
+pub mod Integers
 pub mod Limits
 pub mod Versions
 pub mod Registers

@@ -1,5 +1,6 @@
 //! How far each actor is in its log.
 ghost use Rattle.std.specs.Prelude.{◌≡◌, ◌<◌, false, true};
+ghost use Rattle.zy_isa.specs.Integers.{max_u16};
 ghost use Rattle.zy_order.specs.Ways as spec;
 
 use zy_isa::Actor;
@@ -26,7 +27,7 @@ impl Cursor {
 
     /// One line more is matched.
     fn passed(self) -> Cursor
-        requires { self.lines < 65535 }
+        requires { self.lines < max_u16 }
         ensures { result ≡ spec.passed self }
     {
         Cursor {
@@ -37,7 +38,7 @@ impl Cursor {
 
     /// One step more was made that the log lacks.
     fn filled(self) -> Cursor
-        requires { self.missing < 65535 }
+        requires { self.missing < max_u16 }
         ensures { result ≡ spec.filled self }
     {
         Cursor {
@@ -100,7 +101,7 @@ impl Cursors {
 
     /// The cursors where one line more of an actor is matched.
     pub(crate) fn advanced(self, actor: Actor) -> Cursors
-        requires { spec.cursor actor self < 65535 }
+        requires { spec.cursor actor self < max_u16 }
         ensures { result ≡ spec.advanced actor self }
     {
         self.with(actor, self.of(actor).passed())
@@ -108,7 +109,7 @@ impl Cursors {
 
     /// The cursors where an actor has made one step more that its log lacks.
     pub(crate) fn with_missing(self, actor: Actor) -> Cursors
-        requires { (spec.cursor_of actor self).missing < 65535 }
+        requires { (spec.cursor_of actor self).missing < max_u16 }
         ensures { result ≡ spec.with_missing actor self }
     {
         self.with(actor, self.of(actor).filled())

@@ -1,5 +1,6 @@
 -- Which numbers of a state's parts a choice reads, and which it writes.
 use Rattle.std.specs.Prelude.{ℕ, suc, ◌+◌, ◌*◌, ◌==◌, ◌&&◌, Bool, if◌then◌else◌, List, [], ◌∷◌, drop, map, slice_index_or}
+use Rattle.zy_isa.specs.Integers.{max_u32}
 use Rattle.zy_isa.specs.declared.node.Node.{Node}
 use Rattle.zy_isa.specs.declared.node.Node.TheVariants.{A, B}
 use Rattle.zy_isa.specs.declared.choice.Choice.{Choice}
@@ -9,6 +10,10 @@ use Rattle.zy_state_ids.specs.Codes.{node_code}
 use Rattle.zy_step_cache.specs.declared.places.Read.{Read}
 use Rattle.zy_step_cache.specs.declared.places.Scope.{Scope}
 use Rattle.zy_step_cache.specs.declared.places.Scope.TheVariants as scope
+
+-- of a state with as many numbers no step is remembered
+abbrev pub most_numbers : ℕ
+most_numbers = max_u32
 
 -- ---- where a part's number stands among those of a state
 
