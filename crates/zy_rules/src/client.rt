@@ -1,13 +1,13 @@
 //! The client's lines: each function is the line of its name.
 ghost use Rattle.std.specs.Prelude.{◌≡◌, ◌<◌, IsOk, length, true, false};
 ghost use Rattle.zy_model.specs.Table.{may_start};
-ghost use Rattle.zy_node.specs.Nodes.{limits_of, IsLimited};
+ghost use Rattle.zy_node.specs.Nodes.{IsLimited};
 ghost use Rattle.zy_node.specs.Wireframes.{lows_in};
 ghost use Rattle.zy_table.specs.State.{View};
 ghost use Rattle.zy_table.specs.Client as client;
 ghost use Rattle.zy_txns.specs.Books.{with_book};
 ghost use Rattle.zy_rules.specs.Parts.{Does, MakesLine};
-ghost use Rattle.zy_table.specs.Answers.{move_of, Makes};
+ghost use Rattle.zy_table.specs.Answers.{move_of};
 ghost use Rattle.zy_rules.specs.Sides.{beside};
 
 use crate::run::abort_step;
@@ -63,7 +63,7 @@ pub fn begin_step(me: &NodeStore, them: &NodeStore, book: &mut Book, t: u8) -> A
 #[tactic(auto, unfolding(zy_table::specs::Client::kill_step, zy_table::specs::Run::abort_step, zy_table::specs::Change::txn_at))]
 pub fn kill_step(me: &mut NodeStore, book: &mut Book, t: u8) -> Answer
     requires { t < length book.old.txns }
-    ensures { Does me.old book.old me.new book.new result (client.kill_step t) }
+    ensures line { Does me.old book.old me.new book.new result (client.kill_step t) }
 {
     if !book.txn(t).is_active() {
         return Answer::quiet(Outcome::Idle);

@@ -13,7 +13,7 @@ ghost use Rattle.zy_table.specs.Change.{txn_at, locked, shares};
 ghost use Rattle.zy_table.specs.Ranges.{range_pages};
 ghost use Rattle.zy_table.specs.Run.{first_absent, first_taken, program_of};
 ghost use Rattle.zy_table.specs.Run as table;
-ghost use Rattle.zy_node.specs.Nodes.{node_shown, limits_of, IsFree};
+ghost use Rattle.zy_node.specs.Nodes.{node_shown, IsFree};
 ghost use Rattle.zy_node.specs.Wireframes.{lows_in};
 ghost use Rattle.zy_txns.specs.Books.{txn_in, with_book, Countable};
 ghost use Rattle.zy_rules.specs.Parts.{Does, Runs};
