@@ -1,7 +1,7 @@
 //! How a node becomes a copy of another one: the wireframe and the messages are copied where they differ, and all else goes
 //! into the room that it has.
 ghost use Rattle.std.specs.Prelude.{◌≡◌, ℕ, IfOk};
-ghost use Rattle.zy_node.specs.Nodes.{node_shown, limits_of, IsLimited};
+ghost use Rattle.zy_node.specs.Nodes.{node_shown, IsLimited};
 ghost use Rattle.zy_machine.specs.NodeCopies.{AreChangedParts, IsChangedMail, IsChangedWire, mail_after, wire_after};
 
 use crate::same::{same_messages, same_wire};
@@ -52,9 +52,7 @@ pub(crate) fn changed_parts(
     other: &NodeStore,
 ) -> Result<ChangedParts, AllocError>
     ensures parts { IfOk result (AreChangedParts mine.new other.now) }
-    ensures node { node_shown mine.new ≡ node_shown mine.old }
-    ensures outbox { mine.new.outbox ≡ mine.old.outbox }
-    ensures limits { limits_of mine.new ≡ limits_of mine.old }
+    ensures others { let x = mine.old in mine.new ≡ record x { locks = record x.locks { spare = mine.new.locks.spare } } }
 {
     mine.locks.reserve_copy(&other.locks)?;
     let wire = changed_wire(alloc, &mine.wire, &other.wire)?;

@@ -1,14 +1,14 @@
 //! `n push` and `n finish`.
-ghost use Rattle.std.specs.Prelude.{◌≡◌, ◌≤◌, ◌++◌, ◌∷◌, [], IsOk, length};
+ghost use Rattle.std.specs.Prelude.{◌≡◌, ◌≤◌, IsOk, length};
 ghost use Rattle.zy_isa.specs.Limits.{max_txns};
 ghost use Rattle.zy_model.specs.Messages.{Finish};
 ghost use Rattle.zy_model.specs.declared.mode.NodeMode.TheVariants.{SFinish};
 ghost use Rattle.zy_table.specs.State.{View};
 ghost use Rattle.zy_table.specs.Push as push;
-ghost use Rattle.zy_node.specs.Nodes.{node_shown, limits_of, with_node};
+ghost use Rattle.zy_node.specs.Mail.{with_message};
+ghost use Rattle.zy_node.specs.Nodes.{with_node};
 ghost use Rattle.zy_rules.specs.Memory.{SendNeedsNone};
 ghost use Rattle.zy_rules.specs.Parts.{here, MakesLine, Runs};
-ghost use Rattle.zy_table.specs.Answers.{Makes};
 
 use crate::take::leave;
 use std::alloc::AllocError;
@@ -40,9 +40,7 @@ pub fn push_step(me: &mut NodeStore) -> Result<Answer, AllocError>
 /// Says that the node has finished.
 fn finish(me: &mut NodeStore)
     requires { 1 ≤ me.old.outbox.spare }
-    ensures node { let x = node_shown me.old in node_shown me.new ≡ record x { mode = SFinish } }
-    ensures outbox { me.new.outbox.messages ≡ me.old.outbox.messages ++ Finish ∷ [] }
-    ensures limits { limits_of me.new ≡ limits_of me.old }
+    ensures { let x = me.old in me.new ≡ record x { mode = SFinish; outbox = with_message Finish x.outbox } }
 {
     me.mode = NodeMode::SFinish;
     me.outbox.send(Message::Finish);

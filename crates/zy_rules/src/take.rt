@@ -1,5 +1,5 @@
 //! `n take`: each function is the lines of its name.
-ghost use Rattle.std.specs.Prelude.{◌≡◌, ◌≤◌, ◌+◌, ◌==◌, ◌++◌, ◌∷◌, ◌⊎◌, [], IsOk, None, OnOk, Some, true, false};
+ghost use Rattle.std.specs.Prelude.{◌≡◌, ◌≤◌, ◌+◌, ◌==◌, ◌⊎◌, IsOk, None, OnOk, Some, true, false};
 ghost use Rattle.std.specs.Prelude.{is_some, length, slice_get};
 ghost use Rattle.zy_model.specs.Messages.{Message as AMessage, Page, kind_of};
 ghost use Rattle.zy_links.specs.Messages.{message_of};
@@ -10,7 +10,7 @@ ghost use Rattle.zy_table.specs.Pages.{leaf_at, numbers, without};
 ghost use Rattle.zy_table.specs.Pages as table_pages;
 ghost use Rattle.zy_table.specs.Take.{all_here, with_brought, with_answer};
 ghost use Rattle.zy_table.specs.Take as table_take;
-ghost use Rattle.zy_node.specs.Mail.{HasRoom};
+ghost use Rattle.zy_node.specs.Mail.{with_message, HasRoom};
 ghost use Rattle.zy_node.specs.Nodes.{node_shown, limits_of, KeepsLink};
 ghost use Rattle.zy_node.specs.Wireframes.{lows_in};
 ghost use Rattle.zy_rules.specs.Arrivals.{IsFitting, IsNamed, IsNew, MayTake, MayTakeFrom};
@@ -104,9 +104,12 @@ fn bring(me: &mut NodeStore, message: Message)
 /// Sends the answer that the mode table asks for.
 fn answer(me: &mut NodeStore, sent: Option<Kind>)
     requires { HasRoom sent me.old.outbox }
-    ensures node { node_shown me.new ≡ node_shown me.old }
-    ensures outbox { me.new.outbox.messages ≡ with_answer sent me.old.outbox.messages }
-    ensures limits { limits_of me.new ≡ limits_of me.old }
+    ensures { let x = me.old in me.new ≡ record x {
+      outbox = record x.outbox {
+        messages = with_answer sent x.outbox.messages;
+        spare = me.new.outbox.spare;
+      };
+    } }
 {
     match sent {
         Some(Kind::Ready) => me.outbox.send(Message::Ready),
@@ -124,9 +127,8 @@ fn answer(me: &mut NodeStore, sent: Option<Kind>)
 pub(crate) fn leave(me: &mut NodeStore, p: u16)
     requires owned { table_pages.owns me.old.pages p ≡ true }
     requires room { 1 ≤ me.old.outbox.spare }
-    ensures node { let x = node_shown me.old in node_shown me.new ≡ record x { pages = without p x.pages } }
-    ensures outbox { me.new.outbox.messages ≡ me.old.outbox.messages ++ Page (leaf_at me.old.pages p) ∷ [] }
-    ensures limits { limits_of me.new ≡ limits_of me.old }
+    ensures { let x = me.old in me.new
+        ≡ record x { pages = without p x.pages; outbox = with_message (Page (leaf_at x.pages p)) x.outbox } }
 {
     let page = me.pages.take(p);
     me.outbox.send(Message::Page(page));
@@ -187,11 +189,9 @@ fn at_front(scenario: &Scenario, me: &NodeStore, inbox: &Mailbox) -> Front
 
 /// Makes room for the answer, if there is one.
 fn reserve_answer(me: &mut NodeStore, sent: Option<Kind>) -> Result<(), AllocError>
-    ensures outbox { me.new.outbox.messages ≡ me.old.outbox.messages }
+    ensures others { let x = me.old in me.new ≡ record x { outbox = record x.outbox { spare = me.new.outbox.spare } } }
     ensures room { OnOk result (HasRoom sent me.new.outbox) }
-    ensures others { me.new ≡ record me.old { outbox = me.new.outbox } }
     ensures succeeds { (sent ≡ None) ⊎ (1 ≤ me.old.outbox.spare) → IsOk result }
-    ensures limits { limits_of me.new ≡ limits_of me.old }
 {
     match sent {
         Some(_) => me.reserve_post(),
