@@ -8,7 +8,7 @@ ghost use Rattle.zy_logs.specs.Parts.{or_none};
 use crate::expected::ExpectedInLog;
 use crate::reading::cursor::{LogCursor, Parsed};
 use crate::txns::Txns;
-use zy_isa::Node;
+use zy_isa::{MAX_TXNS, Node};
 use zy_patterns::ReasonPattern;
 use zy_patterns::words::{lone_reason, node};
 use zy_text::names::{is_name, is_numeral};
@@ -18,7 +18,7 @@ use zy_text::numbers::number_of;
 const MAX_PAGE: u64 = 65535;
 
 /// The greatest place in commit order.
-const MAX_PLACE: u64 = 64;
+const MAX_PLACE: u64 = MAX_TXNS as u64;
 
 /// A number that is not above `most`.
 fn number<'a>(most: u64, at: LogCursor<'a>) -> Parsed<'a, u64>
