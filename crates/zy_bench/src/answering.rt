@@ -14,7 +14,7 @@ use zy_cli::request::SearchRequest;
 use zy_engine::finding::find_input;
 use zy_engine::searching::{run_taken, search_input};
 use zy_engine::{AcceptedInput, BenchFault, Format, Question, SearchOptions};
-use zy_goals::commits::takes_steps;
+use zy_goals::footprint::takes_steps;
 use zy_goals::named::{Named, named_by};
 use zy_io::CountingReader;
 use zy_io::reading::read_all;

@@ -1,3 +1,2 @@
 pub mod EachLemmas
-pub mod CommitLemmas
-pub mod EndedLemmas
+pub mod FootprintLemmas

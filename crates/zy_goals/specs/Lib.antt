@@ -2,5 +2,4 @@ pub mod Txns
 pub mod Terms
 pub mod Facts
 pub mod Goals
-pub mod Commits
-pub mod Ended
+pub mod Footprints

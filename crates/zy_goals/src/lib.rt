@@ -1,9 +1,8 @@
 //! Goals: what a search may ask of a state and of a step from it, and what each goal means.
 #![tactic(auto)]
 
-pub mod commits;
-pub mod ended;
 pub mod facts;
+pub mod footprint;
 pub mod goal;
 pub mod named;
 mod terms;

@@ -27,10 +27,10 @@ use Rattle.zy_goals.specs.declared.goal.TxnProperty.TheVariants as property
 use Rattle.zy_patterns.specs.declared.patterns.OutcomePattern.{OutcomePattern}
 use Rattle.zy_goals.specs.Txns.{selected_have}
 use Rattle.zy_goals.specs.Goals.{Context, meets}
-use Rattle.zy_goals.specs.Ended.{reads_ended}
+use Rattle.zy_goals.specs.Footprints.{reads_ended}
 use Rattle.zy_patterns.specs.Patterns.{matches}
 use Rattle.zy_steps.proofs.LiveLemmas.{live_status, live_at}
-use Rattle.zy_goals.proofs.EndedLemmas.{live_selected, live_goal}
+use Rattle.zy_goals.proofs.FootprintLemmas.{live_selected, live_goal}
 use Rattle.zy_search.specs.declared.kinds.ChoiceKinds.{ChoiceKinds}
 use Rattle.zy_search.specs.declared.sought.Sought.{Sought}
 use Rattle.zy_search.specs.declared.deadlock.Wait.{Wait}

@@ -16,8 +16,8 @@ use Rattle.zy_serial.specs.SameMaps.{same_map, is_serial}
 use Rattle.zy_search.specs.declared.sought.Sought.{Sought}
 use Rattle.zy_patterns.specs.declared.patterns.OutcomePattern.{OutcomePattern}
 use Rattle.zy_goals.specs.Goals.{meets}
-use Rattle.zy_goals.specs.Commits.{is_of_commits}
-use Rattle.zy_goals.proofs.CommitLemmas.{same_goal}
+use Rattle.zy_goals.specs.Footprints.{is_of_commits}
+use Rattle.zy_goals.proofs.FootprintLemmas.{same_goal}
 use Rattle.zy_search.specs.Searches.{reached, Shows, shows, context_of, may_follow, is_by_commits}
 use Rattle.zy_search.specs.declared.kinds.ChoiceKinds.{ChoiceKinds}
 

@@ -3,7 +3,7 @@ use Rattle.std.proofs.Common.{◌≡◌, ◌+◌, ◌<◌, ◌≤◌, ◌||◌, 
 use Rattle.std.proofs.lemmas.Bool.{cases_lt}
 use Rattle.zy_isa.specs.Limits.{max_choices}
 use Rattle.zy_patterns.specs.declared.patterns.OutcomePattern.{OutcomePattern}
-use Rattle.zy_goals.specs.Commits.{takes_steps}
+use Rattle.zy_goals.specs.Footprints.{takes_steps}
 use Rattle.zy_search.specs.declared.sought.Sought.{Sought}
 use Rattle.zy_search.specs.Searches.{asks_steps, deepest_if, deepest}
 

@@ -14,7 +14,7 @@ use Rattle.zy_search.specs.declared.answer.SearchAnswer.{SearchAnswer}
 use Rattle.zy_search.specs.declared.answer.SearchAnswer.TheVariants as answer
 use Rattle.zy_patterns.specs.declared.patterns.OutcomePattern.{OutcomePattern}
 use Rattle.zy_goals.specs.Goals.{Context, meets}
-use Rattle.zy_goals.specs.Commits.{takes_steps, is_of_commits}
+use Rattle.zy_goals.specs.Footprints.{takes_steps, is_of_commits}
 use Rattle.zy_search.specs.Stuck.{AreMoves, is_stuck}
 use Rattle.zy_search.specs.Deadlocks.{is_deadlocked}
 use Rattle.zy_search.specs.Possible.{gives, is_possible}

@@ -13,7 +13,7 @@ use Rattle.zy_machine.specs.Histories.{History}
 use Rattle.zy_steps.specs.declared.part.StatePart.{StatePart}
 use Rattle.zy_steps.specs.declared.part.StatePart.TheVariants.{Whole, Live}
 use Rattle.zy_steps.specs.Alike.{Alike}
-use Rattle.zy_goals.specs.Ended.{reads_ended}
+use Rattle.zy_goals.specs.Footprints.{reads_ended}
 use Rattle.zy_step_cache.specs.StepCaches.{choices_of, Knows, Numbers}
 use Rattle.zy_search.specs.declared.sought.Sought.{Sought}
 use Rattle.zy_search.specs.declared.plan.Plan.{Plan}

@@ -3,7 +3,7 @@ ghost use Rattle.std.specs.Prelude.{◌≡◌, ◌<◌, IfOk, OnOk, true, length
 ghost use Rattle.std.specs.Bool.{Decides};
 ghost use Rattle.zy_isa.specs.Limits.{max_choices};
 ghost use Rattle.zy_goals.specs.Goals as goals;
-ghost use Rattle.zy_goals.specs.Commits as goals_commits;
+ghost use Rattle.zy_goals.specs.Footprints as goals_footprints;
 ghost use Rattle.zy_search.specs.Choices.{considered};
 ghost use Rattle.zy_search.specs.Searches.{MayTry, Shows, context_of};
 ghost use Rattle.zy_search.specs.Searches as spec;
@@ -14,8 +14,8 @@ use crate::possible::is_possible;
 use crate::sought::Sought;
 use crate::stuck::is_stuck;
 use std::alloc::Global;
-use zy_goals::commits::is_of_commits;
 use zy_goals::facts::holds_in;
+use zy_goals::footprint::is_of_commits;
 use zy_goals::{Fact, Goal};
 use zy_isa::Choice;
 use zy_machine::{Fault, Machine};
@@ -31,7 +31,7 @@ fn holds(
     machine: &Machine,
     spare: &mut Machine,
 ) -> Result<bool, Fault>
-    requires room { goals_commits.fact_takes_steps fact ≡ true → length machine.now.entries < max_choices }
+    requires room { goals_footprints.fact_takes_steps fact ≡ true → length machine.now.entries < max_choices }
     requires choices { choices.now ≡ considered kinds (length machine.now.scenario.programs) }
     requires spare { spare.old.scenario ≡ machine.now.scenario }
     ensures holds { IfOk result (λ b. b ≡ goals.holds (context_of machine.now.scenario kinds machine.now.state) fact
@@ -58,7 +58,7 @@ fn meets(
     machine: &Machine,
     spare: &mut Machine,
 ) -> Result<bool, Fault>
-    requires room { goals_commits.takes_steps goal.now ≡ true → length machine.now.entries < max_choices }
+    requires room { goals_footprints.takes_steps goal.now ≡ true → length machine.now.entries < max_choices }
     requires choices { choices.now ≡ considered kinds (length machine.now.scenario.programs) }
     requires spare { spare.old.scenario ≡ machine.now.scenario }
     ensures meets { IfOk result (λ b. b ≡ goals.meets (context_of machine.now.scenario kinds machine.now.state)

@@ -5,8 +5,7 @@ ghost use Rattle.zy_search.specs.Visits as visits;
 
 use crate::kinds::ChoiceKinds;
 use zy_goals::Goal;
-use zy_goals::commits::takes_steps;
-use zy_goals::ended::reads_ended;
+use zy_goals::footprint::{reads_ended, takes_steps};
 use zy_isa::MAX_CHOICES;
 use zy_patterns::OutcomePattern;
 use zy_steps::StatePart;
