@@ -1,2 +1,4 @@
 pub mod TextLemmas
 pub mod ReadBackLemmas
+pub mod GoalTexts
+pub mod GoalLemmas

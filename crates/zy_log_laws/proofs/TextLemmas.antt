@@ -1,8 +1,10 @@
 -- The texts of a step are its words with a space between them, and these are words.
-use Rattle.std.proofs.Common.{◌≡◌, ◌∙◌, ℕ, ◌^◌, ◌<◌, ◌≤◌, true, ◌&&◌, List, [], ◌∷◌, ◌++◌, codes, Some, None, Option, refl, ap, sym, arith}
+use Rattle.std.proofs.Common.{◌≡◌, ◌∙◌, ℕ, ◌^◌, ◌<◌, ◌≤◌, Bool, true, false, ◌==◌, ◌&&◌, ◌||◌, List, [], ◌∷◌, ◌++◌, codes, Some, None, Option, refl, ap, sym, arith}
 use Rattle.std.proofs.Common.{append_assoc, append-nil}
 use Rattle.std.specs.Fmt.{decimal}
-use Rattle.std.proofs.lemmas.Bool.{false≢true}
+use Rattle.std.specs.Char.{is_ascii_digit}
+use Rattle.std.specs.Str.{all_ascii_digits}
+use Rattle.std.proofs.lemmas.Bool.{and_from, eqb-true, false≢true, or_right}
 use Rattle.zy_isa.specs.Choices.{names_below}
 use Rattle.zy_isa.specs.declared.choice.Choice.{Choice}
 use Rattle.zy_isa.specs.declared.choice.Choice.TheVariants.{Start, Begin, Kill, Run, Take, Finish, Push}
@@ -16,10 +18,11 @@ use Rattle.zy_table.specs.declared.outcome.Why.TheVariants as why
 use Rattle.zy_table.specs.declared.outcome.Outcome.{Outcome}
 use Rattle.zy_table.specs.declared.outcome.Outcome.TheVariants as outcome
 use Rattle.zy_text.specs.Canon.{choice_words}
+use Rattle.zy_text.specs.Names.{are_parts, is_letter}
 use Rattle.zy_text.specs.Words.{is_word, has_words, spaced}
 use Rattle.zy_listing.specs.Texts.{why_text, kind_text, outcome_text, sent_text, step_text}
 use Rattle.zy_logs.specs.InFull.{IsPage, HasPage, IsTold, reason_words, outcome_words, kind_word, sent_words, step_words}
-use Rattle.zy_text.proofs.WordLemmas.{is_clean, are_clean, number_clean, clean_choice}
+use Rattle.zy_text.proofs.WordLemmas.{is_clean, are_clean, number_clean, digits_of, clean_choice}
 
 -- ---- words with a space between them
 
@@ -138,53 +141,81 @@ clean_more (w ∷ ws) vs h g =
 one_clean : (n : ℕ) → n < 2 ^ 32 → are_clean (decimal n ∷ []) ≡ true
 one_clean n h = let p = number_clean n h in rw (p.0, p.1) refl
 
+-- a letter or a digit
+abbrev pub is_part : ℕ → Bool
+is_part b = is_letter b || is_ascii_digit b
+
+-- words of letters and digits
+abbrev pub are_parted : List (List ℕ) → Bool
+are_parted [] = true
+are_parted (w ∷ ws) = is_word w && are_parts w && are_parted ws
+
+-- what is neither a letter nor a digit is another byte
+pub other : (k : ℕ) → is_part k ≡ false → (b : ℕ) → is_part b ≡ true → (b == k) ≡ false
+other k out b h = tested (b == k) (λ e. eqb-true b k e)
+  where
+    tested : (t : Bool) → (t ≡ true → b ≡ k) → t ≡ false
+    tested true is = absurd (false≢true (sym out ∙ ap is_part (sym (is refl)) ∙ h))
+    tested false is = refl
+
+-- letters and digits are clean
+parts_clean : (w : List ℕ) → are_parts w ≡ true → is_clean w ≡ true
+parts_clean [] h = refl
+parts_clean (b ∷ bs) h =
+    let p = both (is_part b) (are_parts bs) h in
+    rw (other 32 refl b p.0, other 9 refl b p.0, other 13 refl b p.0, other 59 refl b p.0, other 10 refl b p.0, parts_clean bs p.1) refl
+
+-- so are words of them
+parted_clean : (ws : List (List ℕ)) → are_parted ws ≡ true → are_clean ws ≡ true
+parted_clean [] h = refl
+parted_clean (w ∷ ws) h =
+    let p = both (is_word w && are_parts w) (are_parted ws) h in
+    let q = both (is_word w) (are_parts w) p.0 in
+    rw (q.0, parts_clean w q.1, parted_clean ws p.1) refl
+
+-- digits are letters or digits
+digits_parts : (ds : List ℕ) → all_ascii_digits ds ≡ true → are_parts ds ≡ true
+digits_parts [] h = refl
+digits_parts (d ∷ ds) h =
+    let p = both (is_ascii_digit d) (all_ascii_digits ds) h in
+    and_from _ _ (or_right (is_letter d) (is_ascii_digit d) p.0) (digits_parts ds p.1)
+
+-- a number in front of such words
+number_parted : (n : ℕ) (ws : List (List ℕ)) → n < 2 ^ 32 → are_parted ws ≡ true → are_parted (decimal n ∷ ws) ≡ true
+number_parted n ws h more = rw ((number_clean n h).0, digits_parts (decimal n) (digits_of n h), more) refl
+
 -- a page alone
-page_clean : (p : ℕ) → IsPage p → are_clean (decimal p ∷ []) ≡ true
-page_clean p h = one_clean p (omega (arith, h))
+page_parted : (p : ℕ) → IsPage p → are_parted (decimal p ∷ []) ≡ true
+page_parted p h = number_parted p [] (omega (arith, h)) refl
 
--- the words of a reason
-reason_clean : (w : Why) → HasPage w → are_clean (reason_words w) ≡ true
-reason_clean (why.Frozen p) h = page_clean p h
-reason_clean (why.Gone p) h = page_clean p h
-reason_clean why.Own h = refl
-reason_clean why.Killed h = refl
-reason_clean why.BadKey h = refl
-reason_clean why.Missing h = refl
-reason_clean why.Duplicate h = refl
-reason_clean why.NoPage h = refl
+-- the words of a reason are such words
+reason_parted : (w : Why) → HasPage w → are_parted (reason_words w) ≡ true
+reason_parted (why.Frozen p) h = page_parted p h
+reason_parted (why.Gone p) h = page_parted p h
+reason_parted w h = refl
 
--- the words of an outcome
+-- so are the words of an outcome
+pub outcome_parted : (count : ℕ) (o : Outcome) → count ≤ 64 → IsTold count o → are_parted (outcome_words o) ≡ true
+outcome_parted count (outcome.Began A) most h = refl
+outcome_parted count (outcome.Began B) most h = refl
+outcome_parted count (outcome.Split p q k) most h =
+    number_parted p (decimal q ∷ decimal k ∷ []) (omega (arith, h.0)) (number_parted q (decimal k ∷ []) (omega (arith, h.1)) (page_parted k h.2))
+outcome_parted count (outcome.Aborted w) most h = reason_parted w h
+outcome_parted count (outcome.Committed i) most h = number_parted i [] (omega (arith, h)) refl
+outcome_parted count (outcome.Active t) most h = number_parted t [] (omega (arith, most, h)) refl
+outcome_parted count (outcome.Waits n) most h = page_parted n h
+outcome_parted count (outcome.Pulls n) most h = page_parted n h
+outcome_parted count (outcome.Awaits n) most h = page_parted n h
+outcome_parted count (outcome.Stale n) most h = page_parted n h
+outcome_parted count (outcome.Held n) most h = page_parted n h
+outcome_parted count (outcome.GotPull n) most h = page_parted n h
+outcome_parted count (outcome.GotPage n) most h = page_parted n h
+outcome_parted count (outcome.Pushed n) most h = page_parted n h
+outcome_parted count o most h = refl
+
+-- and clean
 pub outcome_clean : (count : ℕ) (o : Outcome) → count ≤ 64 → IsTold count o → are_clean (outcome_words o) ≡ true
-outcome_clean count (outcome.Began A) most h = refl
-outcome_clean count (outcome.Began B) most h = refl
-outcome_clean count (outcome.Split p q k) most h = clean_more (decimal p ∷ []) (decimal q ∷ decimal k ∷ []) (page_clean p h.0)
-    (clean_more (decimal q ∷ []) (decimal k ∷ []) (page_clean q h.1) (page_clean k h.2))
-outcome_clean count (outcome.Aborted w) most h = reason_clean w h
-outcome_clean count (outcome.Committed i) most h = one_clean i (omega (arith, h))
-outcome_clean count (outcome.Active t) most h = one_clean t (omega (arith, most, h))
-outcome_clean count outcome.Started most h = refl
-outcome_clean count outcome.BadMode most h = refl
-outcome_clean count outcome.Idle most h = refl
-outcome_clean count outcome.Elsewhere most h = refl
-outcome_clean count outcome.NotYet most h = refl
-outcome_clean count outcome.Did most h = refl
-outcome_clean count (outcome.Waits n) most h = page_clean n h
-outcome_clean count (outcome.Pulls n) most h = page_clean n h
-outcome_clean count (outcome.Awaits n) most h = page_clean n h
-outcome_clean count outcome.NoMessage most h = refl
-outcome_clean count outcome.GotWire most h = refl
-outcome_clean count outcome.GotReady most h = refl
-outcome_clean count outcome.GotDual most h = refl
-outcome_clean count (outcome.Stale n) most h = page_clean n h
-outcome_clean count (outcome.Held n) most h = page_clean n h
-outcome_clean count (outcome.GotPull n) most h = page_clean n h
-outcome_clean count (outcome.GotPage n) most h = page_clean n h
-outcome_clean count outcome.GotFinish most h = refl
-outcome_clean count outcome.GotDone most h = refl
-outcome_clean count outcome.Stray most h = refl
-outcome_clean count outcome.Finishing most h = refl
-outcome_clean count (outcome.Pushed n) most h = page_clean n h
-outcome_clean count outcome.NoPush most h = refl
+outcome_clean count o most h = parted_clean (outcome_words o) (outcome_parted count o most h)
 
 -- the words of a message
 sent_clean : (k : Option Kind) → are_clean (sent_words k) ≡ true

@@ -1,12 +1,12 @@
 -- Lines of a listing that are read as the steps that they were written for.
-use Rattle.std.specs.Prelude.{◌≡◌, ℕ, List, [], ◌∷◌, Ok}
+use Rattle.std.specs.Prelude.{◌≡◌, ◌&&◌, ◌||◌, ℕ, Bool, List, [], ◌∷◌, codes, Ok}
 use Rattle.zy_table.specs.declared.entry.Entry.{Entry}
 use Rattle.zy_text.specs.Words.{words_of}
 use Rattle.zy_logs.specs.declared.log_line.Logged.TheVariants.{Step}
 use Rattle.zy_logs.specs.declared.txns.Txns.{Txns}
 use Rattle.zy_logs.specs.InFull.{in_full, IsTold}
 use Rattle.zy_logs.specs.Lines.{line_of}
-use Rattle.zy_logs.specs.Words.{after}
+use Rattle.zy_logs.specs.Words.{Word, after, begin_with}
 
 -- the words of each line behind its first word are a line of a log, which leaves nothing of the step out
 abbrev pub AreReadBack : Txns → List (List ℕ) → List Entry → Type 0
@@ -18,3 +18,7 @@ AreReadBack txns texts es = ⊥
 abbrev pub HaveNumbers : ℕ → List Entry → Type 0
 HaveNumbers count [] = Unit {0}
 HaveNumbers count (e ∷ es) = IsTold count e.outcome × HaveNumbers count es
+
+-- `active any` or `active all`: a log may have a transaction of that name, and a goal has none
+abbrev pub names_several : List Word → Bool
+names_several ws = begin_with (codes "active") ws && (begin_with (codes "any") (after ws) || begin_with (codes "all") (after ws))

@@ -1,4 +1,4 @@
-//! What a log reads of what a listing writes.
+//! What a log and a goal read of what a listing writes.
 #![tactic(auto)]
 
 pub mod laws;
