@@ -1,6 +1,6 @@
 //! Advice on a line that is not a command of the debugger.
 
-use std::fmt;
+use std::fmt::{self, Formatter, Write};
 use zy_source_words::nearest_word::{is_one_of, show_nearest};
 use zy_source_words::{Bytes, NearestWord, Quoted, Statement};
 use zy_text::names::is;
@@ -75,7 +75,7 @@ impl<'a> BadCommand<'a> {
     }
 
     /// Says that no command begins with the first word, and which ones there are.
-    fn tell_unknown<W: fmt::Write>(&self, f: &mut fmt::Formatter<W>) -> fmt::Result {
+    fn tell_unknown<W: Write>(&self, f: &mut Formatter<W>) -> fmt::Result {
         let word = self.line.text(0);
         write!(f, "there is no command {}: ", Quoted(word))?;
         show_nearest(
@@ -86,9 +86,9 @@ impl<'a> BadCommand<'a> {
     }
 
     /// Says that a command takes a number, as its word of this number and its last one.
-    fn tell_number<W: fmt::Write>(
+    fn tell_number<W: Write>(
         &self,
-        f: &mut fmt::Formatter<W>,
+        f: &mut Formatter<W>,
         command: Bytes<'_>,
         letter: &'static str,
         at: usize,
@@ -102,7 +102,7 @@ impl<'a> BadCommand<'a> {
     }
 
     /// Says what `break` takes.
-    fn tell_break<W: fmt::Write>(&self, f: &mut fmt::Formatter<W>) -> fmt::Result {
+    fn tell_break<W: Write>(&self, f: &mut Formatter<W>) -> fmt::Result {
         let word = self.line.text(1);
         if is(word, b"page") {
             return self.tell_number(f, Bytes(b"break page"), "P", 2);
@@ -118,7 +118,7 @@ impl<'a> BadCommand<'a> {
 }
 
 /// Says why a command does not take a word as its number.
-fn tell_bad_number<W: fmt::Write>(f: &mut fmt::Formatter<W>, word: &[u8]) -> fmt::Result {
+fn tell_bad_number<W: Write>(f: &mut Formatter<W>, word: &[u8]) -> fmt::Result {
     let why = if number_of(word).is_some() {
         "is above 4294967295"
     } else {
@@ -129,7 +129,7 @@ fn tell_bad_number<W: fmt::Write>(f: &mut fmt::Formatter<W>, word: &[u8]) -> fmt
 
 /// What is wrong, and what to write.
 impl fmt::Display for BadCommand<'_> {
-    fn fmt<W: fmt::Write>(&self, f: &mut fmt::Formatter<W>) -> fmt::Result {
+    fn fmt<W: Write>(&self, f: &mut Formatter<W>) -> fmt::Result {
         let word = self.line.text(0);
         match Takes::of(word) {
             None => self.tell_unknown(f),

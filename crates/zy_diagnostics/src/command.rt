@@ -1,6 +1,6 @@
 //! The commands that read an input.
 
-use std::fmt;
+use std::fmt::{self, Formatter, Write};
 
 /// A command that reads a scenario, an image or a listing.
 #[derive(Clone, Copy, PartialEq, Eq)]
@@ -39,7 +39,7 @@ impl CommandName {
 
 /// Its word.
 impl fmt::Display for CommandName {
-    fn fmt<W: fmt::Write>(&self, f: &mut fmt::Formatter<W>) -> fmt::Result {
+    fn fmt<W: Write>(&self, f: &mut Formatter<W>) -> fmt::Result {
         f.write_str(self.word())
     }
 }
@@ -49,7 +49,7 @@ impl fmt::Display for CommandName {
 pub struct ForImage(pub CommandName);
 
 impl fmt::Display for ForImage {
-    fn fmt<W: fmt::Write>(&self, f: &mut fmt::Formatter<W>) -> fmt::Result {
+    fn fmt<W: Write>(&self, f: &mut Formatter<W>) -> fmt::Result {
         match self.0 {
             CommandName::Asm => f.write_str(
                 "this is an image already: zy_bench dis writes its text",
@@ -74,7 +74,7 @@ impl fmt::Display for ForImage {
 pub struct ForText(pub CommandName);
 
 impl fmt::Display for ForText {
-    fn fmt<W: fmt::Write>(&self, f: &mut fmt::Formatter<W>) -> fmt::Result {
+    fn fmt<W: Write>(&self, f: &mut Formatter<W>) -> fmt::Result {
         match self.0 {
             CommandName::Dis => {
                 f.write_str("this is a text: dis reads an image, as zy_bench asm writes it")

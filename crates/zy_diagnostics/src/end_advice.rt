@@ -3,7 +3,7 @@
 use crate::command::CommandName;
 use crate::header_statement::HeaderStatement;
 use crate::text_advice::TextAdvice;
-use std::fmt;
+use std::fmt::{self, Formatter, Write};
 use zy_asm::{Reason, Stage};
 use zy_source_words::Statement;
 use zy_source_words::line::is_line_feed;
@@ -48,7 +48,7 @@ impl TextAdvice<'_> {
     }
 
     /// Says that the line `end` is missing above the logs.
-    pub(crate) fn tell_unended<W: fmt::Write>(&self, f: &mut fmt::Formatter<W>) -> fmt::Result {
+    pub(crate) fn tell_unended<W: Write>(&self, f: &mut Formatter<W>) -> fmt::Result {
         let advice = END_ABOVE_LOGS;
         write!(
             f,
@@ -57,7 +57,7 @@ impl TextAdvice<'_> {
     }
 
     /// Says what the text has below its end.
-    pub(crate) fn tell_below_end<W: fmt::Write>(&self, f: &mut fmt::Formatter<W>) -> fmt::Result {
+    pub(crate) fn tell_below_end<W: Write>(&self, f: &mut Formatter<W>) -> fmt::Result {
         self.tell_end(f)?;
         match output_with(self.statement.text(0)) {
             Some(output) => write!(
@@ -70,7 +70,7 @@ impl TextAdvice<'_> {
     }
 
     /// Says that the text goes on below its end, and where it ends.
-    fn tell_end<W: fmt::Write>(&self, f: &mut fmt::Formatter<W>) -> fmt::Result {
+    fn tell_end<W: Write>(&self, f: &mut Formatter<W>) -> fmt::Result {
         match self.line_of(&["end"]) {
             Some(line) => write!(f, "{}, which is line {line}", self.reason),
             None => fmt::Display::fmt(&self.reason, f),
@@ -78,7 +78,7 @@ impl TextAdvice<'_> {
     }
 
     /// Says what should follow where the text stops.
-    pub(crate) fn tell_no_end<W: fmt::Write>(&self, f: &mut fmt::Formatter<W>) -> fmt::Result {
+    pub(crate) fn tell_no_end<W: Write>(&self, f: &mut Formatter<W>) -> fmt::Result {
         let stage = self.above.stage;
         self.tell_reason(f)?;
         if self.input.is_empty() {

@@ -3,7 +3,7 @@
 use crate::header_statement::HeaderStatement;
 use crate::text_advice::TextAdvice;
 use crate::unknown_word::begins_other_comment;
-use std::fmt;
+use std::fmt::{self, Formatter, Write};
 use zy_source_words::prefix::number_behind;
 use zy_source_words::{Bytes, NearestWord, Quoted};
 
@@ -33,7 +33,7 @@ fn other_format(input: &[u8]) -> Option<&'static str> {
 
 impl TextAdvice<'_> {
     /// Says what is wrong with a line of the header.
-    pub(crate) fn tell_header<W: fmt::Write>(&self, f: &mut fmt::Formatter<W>) -> fmt::Result {
+    pub(crate) fn tell_header<W: Write>(&self, f: &mut Formatter<W>) -> fmt::Result {
         let Some(statement) = HeaderStatement::of(self.above.stage) else {
             return fmt::Display::fmt(&self.reason, f);
         };
@@ -60,9 +60,9 @@ impl TextAdvice<'_> {
     }
 
     /// Says what follows the first word of this statement of the header.
-    fn tell_statement<W: fmt::Write>(
+    fn tell_statement<W: Write>(
         &self,
-        f: &mut fmt::Formatter<W>,
+        f: &mut Formatter<W>,
         statement: HeaderStatement,
     ) -> fmt::Result {
         let pattern = statement.pattern;
@@ -75,9 +75,9 @@ impl TextAdvice<'_> {
     }
 
     /// Says that this statement of the header should be here.
-    fn tell_other_statement<W: fmt::Write>(
+    fn tell_other_statement<W: Write>(
         &self,
-        f: &mut fmt::Formatter<W>,
+        f: &mut Formatter<W>,
         statement: HeaderStatement,
     ) -> fmt::Result {
         let word = self.statement.text(0);
@@ -95,7 +95,7 @@ impl TextAdvice<'_> {
     }
 
     /// Says what is wrong where a byte is not UTF-8.
-    pub(crate) fn tell_not_text<W: fmt::Write>(&self, f: &mut fmt::Formatter<W>) -> fmt::Result {
+    pub(crate) fn tell_not_text<W: Write>(&self, f: &mut Formatter<W>) -> fmt::Result {
         match other_format(self.input) {
             Some(told) => f.write_str(told),
             None => write!(f, "{}: save the text as UTF-8", self.reason),
@@ -104,11 +104,7 @@ impl TextAdvice<'_> {
 }
 
 /// Says how the first word of a statement of the header should be written, if a word is near to it.
-fn tell_near_word<W: fmt::Write>(
-    f: &mut fmt::Formatter<W>,
-    word: &[u8],
-    first: &'static str,
-) -> fmt::Result {
+fn tell_near_word<W: Write>(f: &mut Formatter<W>, word: &[u8], first: &'static str) -> fmt::Result {
     if let Some(number) = number_behind(word, first.as_bytes()) {
         return write!(f, ": {first} {}, with a space between", Bytes(number));
     }

@@ -1,7 +1,7 @@
 //! Advice on a rejected image.
 
 use crate::command::{CommandName, ForText};
-use std::fmt;
+use std::fmt::{self, Formatter, Write};
 use zy_image::{ImageRefusal, LoadFault};
 use zy_isa::{Operation, PairOperation, Version};
 
@@ -54,7 +54,7 @@ impl<'a> ImageAdvice<'a> {
 }
 
 impl fmt::Display for ImageAdvice<'_> {
-    fn fmt<W: fmt::Write>(&self, f: &mut fmt::Formatter<W>) -> fmt::Result {
+    fn fmt<W: Write>(&self, f: &mut Formatter<W>) -> fmt::Result {
         fmt::Display::fmt(&self.refusal, f)?;
         if self.input.is_empty() {
             f.write_str("; the input is empty")

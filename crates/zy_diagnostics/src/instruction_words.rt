@@ -1,6 +1,6 @@
 //! The words of the instructions.
 
-use std::fmt;
+use std::fmt::{self, Formatter, Write};
 use zy_isa::{Operation, Version};
 use zy_source_words::NearestWord;
 
@@ -20,8 +20,8 @@ pub fn is_instruction(word: &[u8]) -> bool {
 }
 
 /// Shows a known word that is nearest to another, and where it belongs if it is an instruction that this version lacks.
-pub fn show_near<W: fmt::Write>(
-    f: &mut fmt::Formatter<W>,
+pub fn show_near<W: Write>(
+    f: &mut Formatter<W>,
     version: Version,
     nearest: NearestWord<'_>,
 ) -> fmt::Result {
@@ -35,10 +35,7 @@ pub fn show_near<W: fmt::Write>(
 }
 
 /// Shows the words of a version's instructions, with commas between them and `and` before the last.
-pub fn show_instructions<W: fmt::Write>(
-    f: &mut fmt::Formatter<W>,
-    version: Version,
-) -> fmt::Result {
+pub fn show_instructions<W: Write>(f: &mut Formatter<W>, version: Version) -> fmt::Result {
     let of_version = INSTRUCTIONS.iter().filter(|word| is_of(version, **word));
     let count = of_version.count();
     f.write_str("the instructions are ")?;

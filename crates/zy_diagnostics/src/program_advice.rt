@@ -1,7 +1,7 @@
 //! Advice on programs, their names and their labels.
 
 use crate::text_advice::TextAdvice;
-use std::fmt;
+use std::fmt::{self, Formatter, Write};
 use zy_asm::Reason;
 use zy_isa::ProgramFault;
 use zy_source_words::label::label;
@@ -14,7 +14,7 @@ impl<'a> TextAdvice<'a> {
     }
 
     /// Says which programs there are.
-    pub(crate) fn tell_programs<W: fmt::Write>(&self, f: &mut fmt::Formatter<W>) -> fmt::Result {
+    pub(crate) fn tell_programs<W: Write>(&self, f: &mut Formatter<W>) -> fmt::Result {
         match (self.above.programs, self.program()) {
             (0, _) => f.write_str("no program is above"),
             (1, Some(program)) => write!(f, "the only one is {program}"),
@@ -23,9 +23,9 @@ impl<'a> TextAdvice<'a> {
     }
 
     /// Says that no transaction has this number.
-    pub(crate) fn tell_no_transaction<W: fmt::Write>(
+    pub(crate) fn tell_no_transaction<W: Write>(
         &self,
-        f: &mut fmt::Formatter<W>,
+        f: &mut Formatter<W>,
         number: u64,
     ) -> fmt::Result {
         write!(f, "there is no transaction {number}: ")?;
@@ -33,10 +33,7 @@ impl<'a> TextAdvice<'a> {
     }
 
     /// Says that no program has the name.
-    pub(crate) fn tell_no_program_of_name<W: fmt::Write>(
-        &self,
-        f: &mut fmt::Formatter<W>,
-    ) -> fmt::Result {
+    pub(crate) fn tell_no_program_of_name<W: Write>(&self, f: &mut Formatter<W>) -> fmt::Result {
         self.tell_reason(f)?;
         match SourceProgram::nearest(self.lines, self.word()) {
             Some(program) => write!(f, "did you mean {program}"),
@@ -45,7 +42,7 @@ impl<'a> TextAdvice<'a> {
     }
 
     /// Says which program already has the name.
-    pub(crate) fn tell_name_twice<W: fmt::Write>(&self, f: &mut fmt::Formatter<W>) -> fmt::Result {
+    pub(crate) fn tell_name_twice<W: Write>(&self, f: &mut Formatter<W>) -> fmt::Result {
         match SourceProgram::named(self.lines, self.word()) {
             Some(program) => write!(f, "{}: {program}, in line {}", self.reason, program.line),
             None => fmt::Display::fmt(&self.reason, f),
@@ -53,9 +50,9 @@ impl<'a> TextAdvice<'a> {
     }
 
     /// Says what is wrong with the last program above the line.
-    pub(crate) fn tell_of_program<W: fmt::Write>(
+    pub(crate) fn tell_of_program<W: Write>(
         &self,
-        f: &mut fmt::Formatter<W>,
+        f: &mut Formatter<W>,
         program: SourceProgram<'_>,
     ) -> fmt::Result {
         match self.reason {
@@ -68,9 +65,9 @@ impl<'a> TextAdvice<'a> {
     }
 
     /// Says that a program lacks a label.
-    fn tell_no_label<W: fmt::Write>(
+    fn tell_no_label<W: Write>(
         &self,
-        f: &mut fmt::Formatter<W>,
+        f: &mut Formatter<W>,
         program: SourceProgram<'_>,
     ) -> fmt::Result {
         match program.missing_label() {
@@ -80,9 +77,9 @@ impl<'a> TextAdvice<'a> {
     }
 
     /// Says which line already defines the label.
-    fn tell_label_twice<W: fmt::Write>(
+    fn tell_label_twice<W: Write>(
         &self,
-        f: &mut fmt::Formatter<W>,
+        f: &mut Formatter<W>,
         program: SourceProgram<'_>,
     ) -> fmt::Result {
         let label = label(self.statement).unwrap_or(&[]);
@@ -97,9 +94,9 @@ impl<'a> TextAdvice<'a> {
     }
 
     /// Says what a program lacks.
-    fn tell_no_program<W: fmt::Write>(
+    fn tell_no_program<W: Write>(
         &self,
-        f: &mut fmt::Formatter<W>,
+        f: &mut Formatter<W>,
         program: SourceProgram<'_>,
         fault: ProgramFault,
     ) -> fmt::Result {
@@ -119,8 +116,8 @@ impl<'a> TextAdvice<'a> {
 }
 
 /// Says which label a program lacks, and which one is near.
-fn tell_missing_label<W: fmt::Write>(
-    f: &mut fmt::Formatter<W>,
+fn tell_missing_label<W: Write>(
+    f: &mut Formatter<W>,
     program: SourceProgram<'_>,
     name: &[u8],
 ) -> fmt::Result {
@@ -132,8 +129,8 @@ fn tell_missing_label<W: fmt::Write>(
 }
 
 /// Says that the target of the instruction of this number is outside its program.
-fn tell_stray_target<W: fmt::Write>(
-    f: &mut fmt::Formatter<W>,
+fn tell_stray_target<W: Write>(
+    f: &mut Formatter<W>,
     program: SourceProgram<'_>,
     at: u8,
 ) -> fmt::Result {

@@ -1,6 +1,6 @@
 //! The forms of statements: which words a statement takes, and how to write it.
 
-use std::fmt;
+use std::fmt::{self, Formatter, Write};
 use zy_isa::{Operation, PairOperation, Version};
 use zy_source_words::label::operation_at;
 use zy_source_words::nearest_word::is_one_of;
@@ -98,7 +98,7 @@ impl<'a> StatementForm<'a> {
     }
 
     /// Says this, and how to write the statement.
-    pub fn tell<W: fmt::Write>(self, f: &mut fmt::Formatter<W>, what: &str) -> fmt::Result {
+    pub fn tell<W: Write>(self, f: &mut Formatter<W>, what: &str) -> fmt::Result {
         write!(f, "{what}: {}", self.pattern())
     }
 }
@@ -152,7 +152,7 @@ fn node_shape(action: &[u8]) -> Shape {
 
 /// What it takes, and how to write it.
 impl fmt::Display for StatementForm<'_> {
-    fn fmt<W: fmt::Write>(&self, f: &mut fmt::Formatter<W>) -> fmt::Result {
+    fn fmt<W: Write>(&self, f: &mut Formatter<W>) -> fmt::Result {
         self.tell_takes(f)?;
         write!(f, ": {}", self.pattern())
     }
@@ -160,7 +160,7 @@ impl fmt::Display for StatementForm<'_> {
 
 impl StatementForm<'_> {
     /// Says what it takes.
-    fn tell_takes<W: fmt::Write>(self, f: &mut fmt::Formatter<W>) -> fmt::Result {
+    fn tell_takes<W: Write>(self, f: &mut Formatter<W>) -> fmt::Result {
         let (first, takes) = (Bytes(self.first), self.shape.takes());
         match self.shape {
             Shape::Client | Shape::Node => write!(f, "behind {first} comes {takes}"),
@@ -194,7 +194,7 @@ impl Shape {
 pub struct Pattern<'a>(StatementForm<'a>);
 
 impl fmt::Display for Pattern<'_> {
-    fn fmt<W: fmt::Write>(&self, f: &mut fmt::Formatter<W>) -> fmt::Result {
+    fn fmt<W: Write>(&self, f: &mut Formatter<W>) -> fmt::Result {
         let form = self.0;
         match form.shape {
             Shape::Row => f.write_str("row K V"),
@@ -213,18 +213,18 @@ impl fmt::Display for Pattern<'_> {
 
 impl StatementForm<'_> {
     /// Shows its first word, and this behind it.
-    fn show<W: fmt::Write>(self, f: &mut fmt::Formatter<W>, behind: &str) -> fmt::Result {
+    fn show<W: Write>(self, f: &mut Formatter<W>, behind: &str) -> fmt::Result {
         write!(f, "{}{behind}", Bytes(self.first))
     }
 
     /// Shows a jump to a label, and one to a number.
-    fn show_jump<W: fmt::Write>(self, f: &mut fmt::Formatter<W>) -> fmt::Result {
+    fn show_jump<W: Write>(self, f: &mut Formatter<W>) -> fmt::Result {
         let first = Bytes(self.first);
         write!(f, "{first} rA rB LABEL, or {first} rA rB @N")
     }
 
     /// Shows a choice that is made once, and one that is made several times, with this behind the action.
-    fn show_choice<W: fmt::Write>(self, f: &mut fmt::Formatter<W>, behind: &str) -> fmt::Result {
+    fn show_choice<W: Write>(self, f: &mut Formatter<W>, behind: &str) -> fmt::Result {
         let (actor, action) = (Bytes(self.first), Bytes(self.second));
         write!(
             f,
@@ -233,7 +233,7 @@ impl StatementForm<'_> {
     }
 
     /// Shows the choices of a node.
-    fn show_actions<W: fmt::Write>(self, f: &mut fmt::Formatter<W>) -> fmt::Result {
+    fn show_actions<W: Write>(self, f: &mut Formatter<W>) -> fmt::Result {
         f.write_str(if is(self.first, b"A") {
             "A run T, A take, A push or A finish"
         } else {

@@ -2,12 +2,12 @@
 
 use crate::header_statement::begins_as_header;
 use crate::text_advice::TextAdvice;
-use std::fmt;
+use std::fmt::{self, Formatter, Write};
 use zy_text::names::is;
 
 impl TextAdvice<'_> {
     /// Says where a misplaced statement is allowed.
-    pub(crate) fn tell_misplaced<W: fmt::Write>(&self, f: &mut fmt::Formatter<W>) -> fmt::Result {
+    pub(crate) fn tell_misplaced<W: Write>(&self, f: &mut Formatter<W>) -> fmt::Result {
         let word = self.word();
         self.tell_reason(f)?;
         if begins_as_header(self.statement) {
@@ -20,7 +20,7 @@ impl TextAdvice<'_> {
     }
 
     /// Says where programs, or instructions and labels, are allowed.
-    fn tell_place_of<W: fmt::Write>(&self, f: &mut fmt::Formatter<W>, word: &[u8]) -> fmt::Result {
+    fn tell_place_of<W: Write>(&self, f: &mut Formatter<W>, word: &[u8]) -> fmt::Result {
         let (allowed, above) = if is(word, b"txn") {
             ("programs come above the first choice", "")
         } else {
@@ -37,7 +37,7 @@ impl TextAdvice<'_> {
     }
 
     /// Says that the rows need too many pages.
-    pub(crate) fn tell_page_count<W: fmt::Write>(&self, f: &mut fmt::Formatter<W>) -> fmt::Result {
+    pub(crate) fn tell_page_count<W: Write>(&self, f: &mut Formatter<W>) -> fmt::Result {
         let rows = self.above.cap.saturating_add(1) / 2;
         write!(
             f,
@@ -48,11 +48,7 @@ impl TextAdvice<'_> {
 }
 
 /// Says that the key of a row is not above that of the row before.
-pub(crate) fn tell_not_above<W: fmt::Write>(
-    f: &mut fmt::Formatter<W>,
-    key: u16,
-    last: u16,
-) -> fmt::Result {
+pub(crate) fn tell_not_above<W: Write>(f: &mut Formatter<W>, key: u16, last: u16) -> fmt::Result {
     if key == last {
         write!(f, "the key {key} has a row already: each key has one")
     } else {

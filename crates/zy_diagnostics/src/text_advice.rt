@@ -5,7 +5,7 @@ use crate::image_advice::is_image;
 use crate::statement_form::StatementForm;
 use crate::statement_order::tell_not_above;
 use crate::unknown_word::UnknownWord;
-use std::fmt;
+use std::fmt::{self, Formatter, Write};
 use std::str::from_utf8;
 use zy_asm::{LineFault, LinesAbove, Reason};
 use zy_isa::ProgramFault;
@@ -61,7 +61,7 @@ impl<'a> TextAdvice<'a> {
 }
 
 impl fmt::Display for TextAdvice<'_> {
-    fn fmt<W: fmt::Write>(&self, f: &mut fmt::Formatter<W>) -> fmt::Result {
+    fn fmt<W: Write>(&self, f: &mut Formatter<W>) -> fmt::Result {
         if is_image(self.input) {
             return fmt::Display::fmt(&ForImage(self.command), f);
         }
@@ -95,12 +95,12 @@ impl<'a> TextAdvice<'a> {
     }
 
     /// Says what the reader found, before what to write.
-    pub(crate) fn tell_reason<W: fmt::Write>(&self, f: &mut fmt::Formatter<W>) -> fmt::Result {
+    pub(crate) fn tell_reason<W: Write>(&self, f: &mut Formatter<W>) -> fmt::Result {
         write!(f, "{}: ", self.reason)
     }
 
     /// Says what is wrong, and what to write.
-    fn tell<W: fmt::Write>(&self, f: &mut fmt::Formatter<W>) -> fmt::Result {
+    fn tell<W: Write>(&self, f: &mut Formatter<W>) -> fmt::Result {
         if self.is_unended() {
             return self.tell_unended(f);
         }
@@ -120,7 +120,7 @@ impl<'a> TextAdvice<'a> {
     }
 
     /// Says what is wrong with an unknown word.
-    fn tell_not_known<W: fmt::Write>(&self, f: &mut fmt::Formatter<W>) -> fmt::Result {
+    fn tell_not_known<W: Write>(&self, f: &mut Formatter<W>) -> fmt::Result {
         let unknown = UnknownWord {
             statement: self.statement,
             at: self.at,
@@ -130,7 +130,7 @@ impl<'a> TextAdvice<'a> {
     }
 
     /// Says what is wrong with a line that is well formed but does not fit the others.
-    fn tell_of_others<W: fmt::Write>(&self, f: &mut fmt::Formatter<W>) -> fmt::Result {
+    fn tell_of_others<W: Write>(&self, f: &mut Formatter<W>) -> fmt::Result {
         match self.reason {
             Reason::NotAbove { key, last } => tell_not_above(f, key, last),
             Reason::NoTransaction { number, .. } => self.tell_no_transaction(f, number),

@@ -3,7 +3,7 @@
 use crate::instruction_words::{INSTRUCTIONS, is_instruction, show_instructions, show_near};
 use crate::statement_form::{CLIENT_ACTIONS, NODE_ACTIONS, Shape, StatementForm};
 use crate::word_advice::tell_commas;
-use std::fmt;
+use std::fmt::{self, Formatter, Write};
 use zy_asm::{LinesAbove, Stage};
 use zy_source_words::nearest_word::{is_one_of, show_nearest};
 use zy_source_words::{Bytes, NearestWord, Negative, Quoted, Statement};
@@ -23,7 +23,7 @@ pub struct UnknownWord<'a> {
 
 impl<'a> UnknownWord<'a> {
     /// Says what is wrong, and what to write.
-    pub fn tell<W: fmt::Write>(&self, f: &mut fmt::Formatter<W>) -> fmt::Result {
+    pub fn tell<W: Write>(&self, f: &mut Formatter<W>) -> fmt::Result {
         match StatementForm::of(self.above.version, self.statement) {
             Some(form) => self.tell_behind(f, form),
             None => self.tell_first(f),
@@ -36,11 +36,7 @@ impl<'a> UnknownWord<'a> {
     }
 
     /// Says what may follow a known word.
-    fn tell_behind<W: fmt::Write>(
-        &self,
-        f: &mut fmt::Formatter<W>,
-        form: StatementForm<'a>,
-    ) -> fmt::Result {
+    fn tell_behind<W: Write>(&self, f: &mut Formatter<W>, form: StatementForm<'a>) -> fmt::Result {
         match form.shape {
             Shape::OnTxn | Shape::Plain => write!(
                 f,
@@ -58,9 +54,9 @@ impl<'a> UnknownWord<'a> {
     }
 
     /// Says what to write in place of a word that is not a register.
-    fn tell_no_register<W: fmt::Write>(
+    fn tell_no_register<W: Write>(
         &self,
-        f: &mut fmt::Formatter<W>,
+        f: &mut Formatter<W>,
         form: StatementForm<'a>,
     ) -> fmt::Result {
         let word = self.word();
@@ -78,9 +74,9 @@ impl<'a> UnknownWord<'a> {
     }
 
     /// Says how to write a statement with registers.
-    fn tell_registers<W: fmt::Write>(
+    fn tell_registers<W: Write>(
         &self,
-        f: &mut fmt::Formatter<W>,
+        f: &mut Formatter<W>,
         form: StatementForm<'a>,
     ) -> fmt::Result {
         tell_commas(f, self.word())?;
@@ -94,7 +90,7 @@ impl<'a> UnknownWord<'a> {
     }
 
     /// Says what a line may begin with.
-    fn tell_first<W: fmt::Write>(&self, f: &mut fmt::Formatter<W>) -> fmt::Result {
+    fn tell_first<W: Write>(&self, f: &mut Formatter<W>) -> fmt::Result {
         let word = self.word();
         write!(f, "the word {} is not known here: ", Quoted(word))?;
         if is(word, b"sub") {
@@ -115,7 +111,7 @@ impl<'a> UnknownWord<'a> {
     }
 
     /// Says what a line may begin with in place of a word that is no action.
-    fn tell_beginning<W: fmt::Write>(&self, f: &mut fmt::Formatter<W>, word: &[u8]) -> fmt::Result {
+    fn tell_beginning<W: Write>(&self, f: &mut Formatter<W>, word: &[u8]) -> fmt::Result {
         if let Some(told) = advice_for(word, self.statement.text(1)) {
             return f.write_str(told);
         }
@@ -140,7 +136,7 @@ fn advice_for(word: &[u8], next: &[u8]) -> Option<&'static str> {
 }
 
 /// Says which actor has the action that a line begins with.
-fn tell_actor<W: fmt::Write>(f: &mut fmt::Formatter<W>, action: &[u8]) -> fmt::Result {
+fn tell_actor<W: Write>(f: &mut Formatter<W>, action: &[u8]) -> fmt::Result {
     f.write_str("a choice begins with its actor, ")?;
     if is_one_of(action, &CLIENT_ACTIONS) {
         write!(f, "C {}", Bytes(action))
@@ -150,21 +146,17 @@ fn tell_actor<W: fmt::Write>(f: &mut fmt::Formatter<W>, action: &[u8]) -> fmt::R
 }
 
 /// Says how each node writes an action.
-fn tell_nodes<W: fmt::Write>(f: &mut fmt::Formatter<W>, action: Bytes<'_>) -> fmt::Result {
+fn tell_nodes<W: Write>(f: &mut Formatter<W>, action: Bytes<'_>) -> fmt::Result {
     write!(f, "A {action} or B {action}")
 }
 
 /// Says that an actor lacks an action.
-fn tell_no_action<W: fmt::Write>(
-    f: &mut fmt::Formatter<W>,
-    actor: &[u8],
-    action: &[u8],
-) -> fmt::Result {
+fn tell_no_action<W: Write>(f: &mut Formatter<W>, actor: &[u8], action: &[u8]) -> fmt::Result {
     write!(f, "{} has no action {}", Bytes(actor), Quoted(action))
 }
 
 /// Says how to subtract the number that a word spells, or else any number.
-pub fn tell_subtraction<W: fmt::Write>(f: &mut fmt::Formatter<W>, word: &[u8]) -> fmt::Result {
+pub fn tell_subtraction<W: Write>(f: &mut Formatter<W>, word: &[u8]) -> fmt::Result {
     match number_of(word).and_then(Negative::minus) {
         Some(negative) => write!(f, "set a register to {negative}, and add it"),
         None => f.write_str("to take N away, set a register to 2^32 - N, and add it"),
@@ -172,7 +164,7 @@ pub fn tell_subtraction<W: fmt::Write>(f: &mut fmt::Formatter<W>, word: &[u8]) -
 }
 
 /// Says how to put a number into a register.
-fn tell_load<W: fmt::Write>(f: &mut fmt::Formatter<W>, statement: Statement<'_>) -> fmt::Result {
+fn tell_load<W: Write>(f: &mut Formatter<W>, statement: Statement<'_>) -> fmt::Result {
     f.write_str("set rA N puts a number into a register")?;
     match Negative::among(statement) {
         Some(negative) => write!(f, ", here {negative}"),
@@ -194,7 +186,7 @@ fn is_action(word: &[u8]) -> bool {
 }
 
 /// Says that the client lacks an action, and which ones it has.
-fn tell_action_of_client<W: fmt::Write>(f: &mut fmt::Formatter<W>, action: &[u8]) -> fmt::Result {
+fn tell_action_of_client<W: Write>(f: &mut Formatter<W>, action: &[u8]) -> fmt::Result {
     tell_no_action(f, b"C", action)?;
     if is(action, b"run") {
         f.write_str(", which is a node's: A run T or B run T")
@@ -212,8 +204,8 @@ fn tell_action_of_client<W: fmt::Write>(f: &mut fmt::Formatter<W>, action: &[u8]
 }
 
 /// Says which actions a node has in place of this one.
-fn tell_action_of_node<W: fmt::Write>(
-    f: &mut fmt::Formatter<W>,
+fn tell_action_of_node<W: Write>(
+    f: &mut Formatter<W>,
     action: &[u8],
     form: StatementForm<'_>,
 ) -> fmt::Result {
@@ -229,7 +221,7 @@ fn tell_action_of_node<W: fmt::Write>(
 }
 
 /// Says which words a line here may begin with.
-fn tell_statements<W: fmt::Write>(f: &mut fmt::Formatter<W>, above: LinesAbove) -> fmt::Result {
+fn tell_statements<W: Write>(f: &mut Formatter<W>, above: LinesAbove) -> fmt::Result {
     match above.stage {
         Stage::Choices => f.write_str(
             "below the first choice come choices, of A, B and C, and end",

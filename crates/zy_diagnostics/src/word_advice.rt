@@ -5,7 +5,7 @@ use crate::instruction_words::{INSTRUCTIONS, is_instruction, show_instructions, 
 use crate::statement_form::{Shape, StatementForm};
 use crate::text_advice::TextAdvice;
 use crate::unknown_word::{begins_other_comment, tell_subtraction};
-use std::fmt;
+use std::fmt::{self, Formatter, Write};
 use zy_source_words::prefix::number_behind;
 use zy_source_words::{Bytes, NearestWord, Negative, Quoted};
 use zy_text::names::{is, is_name, label_of};
@@ -16,7 +16,7 @@ const MAX_NAME: usize = 32;
 
 impl TextAdvice<'_> {
     /// Says what to write in place of a word that is not a name.
-    pub(crate) fn tell_no_name<W: fmt::Write>(&self, f: &mut fmt::Formatter<W>) -> fmt::Result {
+    pub(crate) fn tell_no_name<W: Write>(&self, f: &mut Formatter<W>) -> fmt::Result {
         match self.form() {
             Some(form) if matches!(form.shape, Shape::Jump) && self.at > form.at => {
                 tell_target(f, self.word())
@@ -26,7 +26,7 @@ impl TextAdvice<'_> {
     }
 
     /// Says what a name is, and how long this one is if it is too long.
-    fn tell_bad_name<W: fmt::Write>(&self, f: &mut fmt::Formatter<W>, word: &[u8]) -> fmt::Result {
+    fn tell_bad_name<W: Write>(&self, f: &mut Formatter<W>, word: &[u8]) -> fmt::Result {
         let length = label_of(word).unwrap_or(word).len();
         if length > MAX_NAME {
             write!(f, "{}: this one has {length}", self.reason)
@@ -36,10 +36,7 @@ impl TextAdvice<'_> {
     }
 
     /// Says what follows a label.
-    pub(crate) fn tell_no_instruction<W: fmt::Write>(
-        &self,
-        f: &mut fmt::Formatter<W>,
-    ) -> fmt::Result {
+    pub(crate) fn tell_no_instruction<W: Write>(&self, f: &mut Formatter<W>) -> fmt::Result {
         let word = self.word();
         self.tell_reason(f)?;
         if is_instruction(word) {
@@ -56,11 +53,7 @@ impl TextAdvice<'_> {
     }
 
     /// Says which instruction is nearest to a word, or which ones there are.
-    fn tell_instruction_for<W: fmt::Write>(
-        &self,
-        f: &mut fmt::Formatter<W>,
-        word: &[u8],
-    ) -> fmt::Result {
+    fn tell_instruction_for<W: Write>(&self, f: &mut Formatter<W>, word: &[u8]) -> fmt::Result {
         match NearestWord::of(word, &INSTRUCTIONS) {
             Some(nearest) => show_near(f, self.above.version, nearest),
             None if label_of(word).is_some() => f.write_str("a line has one label"),
@@ -69,7 +62,7 @@ impl TextAdvice<'_> {
     }
 
     /// Says how to write a statement that has too few words or too many.
-    pub(crate) fn tell_count<W: fmt::Write>(&self, f: &mut fmt::Formatter<W>) -> fmt::Result {
+    pub(crate) fn tell_count<W: Write>(&self, f: &mut Formatter<W>) -> fmt::Result {
         match self.form() {
             Some(_) if begins_other_comment(self.word()) => f.write_str("a comment begins with ;"),
             Some(form) if form.is_choice() && self.at >= form.words() => {
@@ -84,11 +77,7 @@ impl TextAdvice<'_> {
     }
 
     /// Says what may follow a choice.
-    fn tell_times<W: fmt::Write>(
-        &self,
-        f: &mut fmt::Formatter<W>,
-        form: StatementForm<'_>,
-    ) -> fmt::Result {
+    fn tell_times<W: Write>(&self, f: &mut Formatter<W>, form: StatementForm<'_>) -> fmt::Result {
         let word = self.word();
         if let Some(number) = number_behind(word, b"x") {
             write!(
@@ -106,7 +95,7 @@ impl TextAdvice<'_> {
     }
 
     /// Says how to write a statement in which a word is not a number in its range.
-    pub(crate) fn tell_number<W: fmt::Write>(&self, f: &mut fmt::Formatter<W>) -> fmt::Result {
+    pub(crate) fn tell_number<W: Write>(&self, f: &mut Formatter<W>) -> fmt::Result {
         self.tell_reason(f)?;
         match (HeaderStatement::of(self.above.stage), self.form()) {
             (Some(statement), _) => f.write_str(statement.pattern),
@@ -116,11 +105,7 @@ impl TextAdvice<'_> {
     }
 
     /// Says how to write a statement with a wrong value.
-    fn tell_value<W: fmt::Write>(
-        &self,
-        f: &mut fmt::Formatter<W>,
-        form: StatementForm<'_>,
-    ) -> fmt::Result {
+    fn tell_value<W: Write>(&self, f: &mut Formatter<W>, form: StatementForm<'_>) -> fmt::Result {
         fmt::Display::fmt(&form.pattern(), f)?;
         match Negative::of(self.word()) {
             Some(negative) if form.has_value_at(self.at) => { write!(f, ", here {negative}") }
@@ -130,7 +115,7 @@ impl TextAdvice<'_> {
 }
 
 /// Says that no comma separates words, if some bytes have one.
-pub fn tell_commas<W: fmt::Write>(f: &mut fmt::Formatter<W>, bytes: &[u8]) -> fmt::Result {
+pub fn tell_commas<W: Write>(f: &mut Formatter<W>, bytes: &[u8]) -> fmt::Result {
     if bytes.contains(&b',') {
         f.write_str("words have spaces between them, and no comma: ")
     } else {
@@ -139,7 +124,7 @@ pub fn tell_commas<W: fmt::Write>(f: &mut fmt::Formatter<W>, bytes: &[u8]) -> fm
 }
 
 /// Says what a target is, and that this word is not one.
-fn tell_target<W: fmt::Write>(f: &mut fmt::Formatter<W>, word: &[u8]) -> fmt::Result {
+fn tell_target<W: Write>(f: &mut Formatter<W>, word: &[u8]) -> fmt::Result {
     let (target, name) = target_for(word);
     write!(
         f,

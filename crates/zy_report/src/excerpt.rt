@@ -1,6 +1,6 @@
 //! Lines of an input and of a listing, as a person is shown them.
 
-use std::fmt;
+use std::fmt::{self, Formatter, Write};
 use zy_source_words::prefix::common_prefix;
 use zy_source_words::{Bytes, Position};
 use zy_text::names::is;
@@ -53,7 +53,7 @@ impl Differing<'_> {
 }
 
 impl fmt::Display for Differing<'_> {
-    fn fmt<W: fmt::Write>(&self, f: &mut fmt::Formatter<W>) -> fmt::Result {
+    fn fmt<W: Write>(&self, f: &mut Formatter<W>) -> fmt::Result {
         if self.is_scenario {
             f.write_str("this is a scenario without its listing: ")?;
         } else if self.is_trace() {
@@ -104,7 +104,7 @@ impl<'a> Excerpt<'a> {
 /// In quotes; a line feed is shown as `\n`, another byte that does not print as `\xNN`, and what was cut off as two
 /// dots.
 impl fmt::Display for Excerpt<'_> {
-    fn fmt<W: fmt::Write>(&self, f: &mut fmt::Formatter<W>) -> fmt::Result {
+    fn fmt<W: Write>(&self, f: &mut Formatter<W>) -> fmt::Result {
         f.write_str(if self.is_cut { "..'" } else { "'" })?;
         for byte in self.shown {
             if *byte == b'\n' {

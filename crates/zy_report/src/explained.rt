@@ -2,7 +2,7 @@
 
 use crate::no_effect::tell_number;
 use std::alloc::Global;
-use std::fmt;
+use std::fmt::{self, Formatter, Write};
 use zy_isa::{Choice, MAX_CHOICES};
 use zy_machine::{Fault, Machine};
 use zy_serial::explaining::explaining_order;
@@ -51,7 +51,7 @@ pub fn went_from(alloc: Global, machine: &Machine, choices: &[Choice]) -> Result
 struct Explained<'a>(pub &'a [CommitRecord]);
 
 impl fmt::Display for Explained<'_> {
-    fn fmt<W: fmt::Write>(&self, f: &mut fmt::Formatter<W>) -> fmt::Result {
+    fn fmt<W: Write>(&self, f: &mut Formatter<W>) -> fmt::Result {
         let mut between = "the rows are those of ";
         for commit in self.0 {
             tell_number(f, between, usize::from(commit.txn))?;

@@ -1,7 +1,8 @@
 //! Why an input could not be opened or read.
 
+use std::fmt::{self, Formatter, Write};
+use std::io;
 use std::io::ErrorKind;
-use std::{fmt, io};
 
 /// The system's error number for a stream that is not open for reading.
 const NOT_OPEN: i32 = 9;
@@ -44,7 +45,7 @@ impl Failure {
 }
 
 impl fmt::Display for Failure {
-    fn fmt<W: fmt::Write>(&self, f: &mut fmt::Formatter<W>) -> fmt::Result {
+    fn fmt<W: Write>(&self, f: &mut Formatter<W>) -> fmt::Result {
         let input = if self.is_file {
             "the file"
         } else {

@@ -2,7 +2,7 @@
 
 use crate::failure::Failure;
 use crate::origin::Origin;
-use std::fmt;
+use std::fmt::{self, Formatter, Write};
 use zy_diagnostics::{CommandName, ImageAdvice, TextAdvice};
 use zy_engine::BenchFault;
 
@@ -65,7 +65,7 @@ impl<'a> FaultMessage<'a> {
 
 /// Where it is, the fault's name, and the words.
 impl fmt::Display for FaultMessage<'_> {
-    fn fmt<W: fmt::Write>(&self, f: &mut fmt::Formatter<W>) -> fmt::Result {
+    fn fmt<W: Write>(&self, f: &mut Formatter<W>) -> fmt::Result {
         let InputRead { command, bytes, .. } = self.reading;
         write!(f, "{}: ", self.origin())?;
         match self.fault {

@@ -5,7 +5,7 @@ use crate::explained::went_from;
 use crate::origin::Origin;
 use crate::summary::Count;
 use std::alloc::{AllocError, Global};
-use std::fmt;
+use std::fmt::{self, Formatter, Write};
 use zy_io::{Line, LineBuffer};
 use zy_isa::{Actor, Choice, MAX_CHOICES};
 use zy_listing::StepLine;
@@ -290,7 +290,7 @@ impl Steps {
 }
 
 impl fmt::Display for Steps {
-    fn fmt<W: fmt::Write>(&self, f: &mut fmt::Formatter<W>) -> fmt::Result {
+    fn fmt<W: Write>(&self, f: &mut Formatter<W>) -> fmt::Result {
         fmt::Display::fmt(&Count::of(self.lines, "line"), f)?;
         if self.missing == 0 {
             return Ok(());
@@ -308,7 +308,7 @@ pub struct Reach {
 }
 
 impl fmt::Display for Reach {
-    fn fmt<W: fmt::Write>(&self, f: &mut fmt::Formatter<W>) -> fmt::Result {
+    fn fmt<W: Write>(&self, f: &mut Formatter<W>) -> fmt::Result {
         let Reach { taken, all } = *self;
         write!(
             f,
@@ -335,7 +335,7 @@ impl<'a> Unfit<'a> {
     }
 
     /// Writes the line, and what the table gives there.
-    fn tell_table<W: fmt::Write>(&self, f: &mut fmt::Formatter<W>) -> fmt::Result {
+    fn tell_table<W: Write>(&self, f: &mut Formatter<W>) -> fmt::Result {
         let told = Excerpt::of(self.bytes.trim_ascii(), 0);
         let came = Excerpt::of(self.came, 0);
         write!(f, " {told}: the table gives {came} there")
@@ -359,7 +359,7 @@ impl<'a> Unfit<'a> {
 }
 
 impl fmt::Display for Unfit<'_> {
-    fn fmt<W: fmt::Write>(&self, f: &mut fmt::Formatter<W>) -> fmt::Result {
+    fn fmt<W: Write>(&self, f: &mut Formatter<W>) -> fmt::Result {
         fmt::Display::fmt(&self.origin(), f)?;
         f.write_str(if self.file.is_some() { ":" } else { "" })?;
         self.tell_table(f)

@@ -1,7 +1,7 @@
 //! Runs of which nothing came: of all choices, or of those of a transaction.
 
 use crate::attempts::{AttemptsByTxn, Doubtful};
-use std::fmt;
+use std::fmt::{self, Formatter, Write};
 use zy_isa::Node;
 use zy_machine::Machine;
 use zy_table::Outcome;
@@ -28,7 +28,7 @@ impl Cause {
     }
 
     /// Writes what it says of one transaction, or of several.
-    fn tell<W: fmt::Write>(self, f: &mut fmt::Formatter<W>, is_one: bool) -> fmt::Result {
+    fn tell<W: Write>(self, f: &mut Formatter<W>, is_one: bool) -> fmt::Result {
         let (was, is) = if is_one {
             ("was", "is")
         } else {
@@ -43,8 +43,8 @@ impl Cause {
 }
 
 /// Writes at which node transactions are, and that they were run at the other one.
-fn tell_place<W: fmt::Write>(
-    f: &mut fmt::Formatter<W>,
+fn tell_place<W: Write>(
+    f: &mut Formatter<W>,
     is: &'static str,
     was: &'static str,
     node: Node,
@@ -108,7 +108,7 @@ impl Stalled {
     }
 
     /// Writes their numbers.
-    fn tell_txns<W: fmt::Write>(&self, f: &mut fmt::Formatter<W>) -> fmt::Result {
+    fn tell_txns<W: Write>(&self, f: &mut Formatter<W>) -> fmt::Result {
         let mut left = self.count;
         let mut between = if left == 1 {
             "transaction "
@@ -127,7 +127,7 @@ impl Stalled {
 }
 
 impl fmt::Display for Stalled {
-    fn fmt<W: fmt::Write>(&self, f: &mut fmt::Formatter<W>) -> fmt::Result {
+    fn fmt<W: Write>(&self, f: &mut Formatter<W>) -> fmt::Result {
         self.tell_txns(f)?;
         f.write_str(" ")?;
         self.cause.tell(f, self.count == 1)
@@ -135,8 +135,8 @@ impl fmt::Display for Stalled {
 }
 
 /// Writes a number behind what is between it and the one before.
-pub fn tell_number<W: fmt::Write>(
-    f: &mut fmt::Formatter<W>,
+pub fn tell_number<W: Write>(
+    f: &mut Formatter<W>,
     between: &'static str,
     number: usize,
 ) -> fmt::Result {
@@ -183,7 +183,7 @@ impl Idling {
 }
 
 impl fmt::Display for Idling {
-    fn fmt<W: fmt::Write>(&self, f: &mut fmt::Formatter<W>) -> fmt::Result {
+    fn fmt<W: Write>(&self, f: &mut Formatter<W>) -> fmt::Result {
         f.write_str(match (self.bad_mode, self.no_message) {
             (true, true) => "the outcomes are badmode and nomessage",
             (true, false) => "each outcome is badmode",
@@ -220,7 +220,7 @@ impl NoEffect {
 }
 
 impl fmt::Display for NoEffect {
-    fn fmt<W: fmt::Write>(&self, f: &mut fmt::Formatter<W>) -> fmt::Result {
+    fn fmt<W: Write>(&self, f: &mut Formatter<W>) -> fmt::Result {
         let still = match &self.reason {
             Reason::Stalled(stalled) => stalled.still,
             Reason::Idling(_) => self.count,

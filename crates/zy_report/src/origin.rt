@@ -1,6 +1,6 @@
 //! Where a fault is, as the beginning of its line says.
 
-use std::fmt;
+use std::fmt::{self, Formatter, Write};
 use zy_source_words::Position;
 
 /// Where a fault is.
@@ -41,7 +41,7 @@ impl<'a> Origin<'a> {
 /// `zy_bench`, with the line of standard input where that is known; or the file and in it the line and the column, as
 /// editors read it.
 impl fmt::Display for Origin<'_> {
-    fn fmt<W: fmt::Write>(&self, f: &mut fmt::Formatter<W>) -> fmt::Result {
+    fn fmt<W: Write>(&self, f: &mut Formatter<W>) -> fmt::Result {
         match *self {
             Origin::Program => f.write_str("zy_bench"),
             Origin::File(file) => tell_name(f, file),
@@ -61,7 +61,7 @@ impl fmt::Display for Origin<'_> {
 }
 
 /// Writes the name of a file; a control character of it is shown as `\xNN`.
-fn tell_name<W: fmt::Write>(f: &mut fmt::Formatter<W>, name: &str) -> fmt::Result {
+fn tell_name<W: Write>(f: &mut Formatter<W>, name: &str) -> fmt::Result {
     for letter in name.chars() {
         if letter.is_control() {
             write!(f, "\\x{:02x}", u32::from(letter))?;

@@ -1,6 +1,6 @@
 //! Why the text of a goal is rejected.
 
-use std::fmt;
+use std::fmt::{self, Formatter, Write};
 use zy_queries::WordFault;
 use zy_source_words::{MarkedWord, SourceWord};
 
@@ -25,7 +25,7 @@ impl<'a> RefusedGoal<'a> {
 
 /// The flag, what is expected, and the text of the goal with the word at fault marked. `>` and `<` are words of goals.
 impl fmt::Display for RefusedGoal<'_> {
-    fn fmt<W: fmt::Write>(&self, f: &mut fmt::Formatter<W>) -> fmt::Result {
+    fn fmt<W: Write>(&self, f: &mut Formatter<W>) -> fmt::Result {
         let WordFault { from, to, expected } = self.refusal;
         let text = self.text.as_bytes();
         let word = SourceWord {

@@ -1,7 +1,7 @@
 //! Why a line of a log is rejected.
 
 use crate::origin::Origin;
-use std::fmt;
+use std::fmt::{self, Formatter, Write};
 use zy_logs::LogLineFault;
 use zy_source_words::{MarkedWord, SourceLine, SourceWord, Statement};
 
@@ -51,7 +51,7 @@ fn end_of(statement: Statement<'_>) -> SourceWord<'_> {
 /// Where it is, the fault's name, what is expected, and the line with the word at fault marked; the flag that reads objects, where
 /// the line looks like one.
 impl fmt::Display for RefusedLine<'_> {
-    fn fmt<W: fmt::Write>(&self, f: &mut fmt::Formatter<W>) -> fmt::Result {
+    fn fmt<W: Write>(&self, f: &mut Formatter<W>) -> fmt::Result {
         let refusal = self.refusal;
         let place = misfit(self.statement(), refusal.word);
         let origin = Origin::at(self.file, place.position(refusal.line));

@@ -4,7 +4,7 @@ use crate::excerpt::Excerpt;
 use crate::origin::Origin;
 use crate::refused_line::misfit;
 use std::alloc::Global;
-use std::fmt;
+use std::fmt::{self, Formatter, Write};
 use zy_engine::BenchFault;
 use zy_json::logs::read_objects;
 use zy_json::{JsonLineFault, JsonLogFault};
@@ -38,7 +38,7 @@ impl<'a> RefusedObject<'a> {
 
 /// Where it is, what is wrong, and the line.
 impl fmt::Display for RefusedObject<'_> {
-    fn fmt<W: fmt::Write>(&self, f: &mut fmt::Formatter<W>) -> fmt::Result {
+    fn fmt<W: Write>(&self, f: &mut Formatter<W>) -> fmt::Result {
         let refusal = self.refusal;
         let origin = Origin::at(self.file, start_of(refusal.line));
         let told = Excerpt::of(
@@ -86,7 +86,7 @@ pub struct RefusedTold<'a> {
 
 /// Where the object is, the fault's name, what is expected, and the line that it tells with the word at fault marked.
 impl fmt::Display for RefusedTold<'_> {
-    fn fmt<W: fmt::Write>(&self, f: &mut fmt::Formatter<W>) -> fmt::Result {
+    fn fmt<W: Write>(&self, f: &mut Formatter<W>) -> fmt::Result {
         let refusal = self.refusal;
         let place = misfit(self.told, refusal.word);
         let origin = Origin::at(self.file, start_of(refusal.line));

@@ -1,6 +1,6 @@
 //! What a search says at its end.
 
-use std::fmt;
+use std::fmt::{self, Formatter, Write};
 use zy_search::{ChoiceKinds, SearchAnswer, SearchReport};
 
 /// What came of a search, as a line for standard error.
@@ -28,7 +28,7 @@ impl<'a> Summary<'a> {
     }
 
     /// Writes after how many states a schedule was found, and how many choices it adds.
-    fn write_found<W: fmt::Write>(self, f: &mut fmt::Formatter<W>, choices: usize) -> fmt::Result {
+    fn write_found<W: Write>(self, f: &mut Formatter<W>, choices: usize) -> fmt::Result {
         let states = Count::of(self.report.states, "state");
         let verb = if choices == 1 { "leads" } else { "lead" };
         let choices = Count::of(choices, "choice");
@@ -43,7 +43,7 @@ impl<'a> Summary<'a> {
     }
 
     /// Writes that no state shows it, or that every state meets it.
-    fn write_none<W: fmt::Write>(self, f: &mut fmt::Formatter<W>) -> fmt::Result {
+    fn write_none<W: Write>(self, f: &mut Formatter<W>) -> fmt::Result {
         let states = Count::of(self.report.states, "state");
         let most = Count::of(self.report.depth, "choice");
         let left_out = self.left_out();
@@ -59,7 +59,7 @@ impl<'a> Summary<'a> {
     }
 
     /// Writes that the search gave up, and which schedules it has ruled out.
-    fn write_spent<W: fmt::Write>(self, f: &mut fmt::Formatter<W>, fewer: usize) -> fmt::Result {
+    fn write_spent<W: Write>(self, f: &mut Formatter<W>, fewer: usize) -> fmt::Result {
         let states = Count::of(self.report.states, "state");
         let is_unjudged = fewer == 0;
         let fewer = Count::of(fewer, "choice");
@@ -82,7 +82,7 @@ impl<'a> Summary<'a> {
 }
 
 impl fmt::Display for Summary<'_> {
-    fn fmt<W: fmt::Write>(&self, f: &mut fmt::Formatter<W>) -> fmt::Result {
+    fn fmt<W: Write>(&self, f: &mut Formatter<W>) -> fmt::Result {
         match &self.report.answer {
             SearchAnswer::Found(path) => self.write_found(f, path.len()),
             SearchAnswer::Nowhere => self.write_none(f),
@@ -126,12 +126,7 @@ struct Listed {
 
 impl Listed {
     /// Writes a word, if it is one of the list, and what is between it and the one before.
-    fn write<W: fmt::Write>(
-        &mut self,
-        f: &mut fmt::Formatter<W>,
-        word: &str,
-        is_there: bool,
-    ) -> fmt::Result {
+    fn write<W: Write>(&mut self, f: &mut Formatter<W>, word: &str, is_there: bool) -> fmt::Result {
         if !is_there {
             return Ok(());
         }
@@ -144,7 +139,7 @@ impl Listed {
 }
 
 impl fmt::Display for LeftOut {
-    fn fmt<W: fmt::Write>(&self, f: &mut fmt::Formatter<W>) -> fmt::Result {
+    fn fmt<W: Write>(&self, f: &mut Formatter<W>) -> fmt::Result {
         let LeftOut(kinds) = *self;
         let mut listed = Listed {
             left: self.count(),
@@ -180,7 +175,7 @@ impl Count {
 }
 
 impl fmt::Display for Count {
-    fn fmt<W: fmt::Write>(&self, f: &mut fmt::Formatter<W>) -> fmt::Result {
+    fn fmt<W: Write>(&self, f: &mut Formatter<W>) -> fmt::Result {
         let Count { number, one } = *self;
         let end = if number == 1 { "" } else { "s" };
         write!(f, "{number} {one}{end}")

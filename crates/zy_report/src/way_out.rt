@@ -1,7 +1,7 @@
 //! What it takes to end the migration from a state that a search has found, as standard error counts it.
 
 use crate::summary::Count;
-use std::fmt;
+use std::fmt::{self, Formatter, Write};
 use zy_ending::ending::way_out;
 use zy_isa::Choice;
 use zy_machine::Machine;
@@ -48,7 +48,7 @@ impl WayOut {
 }
 
 impl fmt::Display for WayOut {
-    fn fmt<W: fmt::Write>(&self, f: &mut fmt::Formatter<W>) -> fmt::Result {
+    fn fmt<W: Write>(&self, f: &mut Formatter<W>) -> fmt::Result {
         let WayOut { kills, steps } = *self;
         f.write_str("no dead end: zy_bench end adds ")?;
         if kills != 0 {

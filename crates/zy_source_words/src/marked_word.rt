@@ -3,7 +3,7 @@
 use crate::bytes::{show_byte, show_code};
 use crate::line::{SourceLine, SourceWord};
 use crate::position::Position;
-use std::fmt;
+use std::fmt::{self, Formatter, Write};
 
 /// The most bytes that are shown of a word, and on each side of it.
 const MOST: usize = 40;
@@ -73,7 +73,7 @@ impl<'a> MarkedWord<'a> {
 /// The column, from 1 and in characters, and the line with the word between `>` and `<`. Two dots stand for bytes that
 /// are cut off, and `\xNN` for a byte that does not print.
 impl fmt::Display for MarkedWord<'_> {
-    fn fmt<W: fmt::Write>(&self, f: &mut fmt::Formatter<W>) -> fmt::Result {
+    fn fmt<W: Write>(&self, f: &mut Formatter<W>) -> fmt::Result {
         self.show_position(f)?;
         self.show_end(f, self.before)?;
         self.show_front(f, ">", self.word)?;
@@ -99,7 +99,7 @@ fn characters(bytes: &[u8]) -> usize {
 
 impl MarkedWord<'_> {
     /// Shows the column, with the line number if the fault is in another line.
-    fn show_position<W: fmt::Write>(self, f: &mut fmt::Formatter<W>) -> fmt::Result {
+    fn show_position<W: Write>(self, f: &mut Formatter<W>) -> fmt::Result {
         let column = self.column();
         match self.line {
             Some(line) => write!(f, "line {line}, column {column}: '"),
@@ -108,26 +108,21 @@ impl MarkedWord<'_> {
     }
 
     /// Shows the last bytes before the word.
-    fn show_end<W: fmt::Write>(self, f: &mut fmt::Formatter<W>, bytes: &[u8]) -> fmt::Result {
+    fn show_end<W: Write>(self, f: &mut Formatter<W>, bytes: &[u8]) -> fmt::Result {
         let cut = bytes.len().saturating_sub(MOST);
         f.write_str(dots(bytes))?;
         self.show(f, bytes.get(cut..).unwrap_or(&[]))
     }
 
     /// Shows a mark, and the first bytes of the word or of what follows it.
-    fn show_front<W: fmt::Write>(
-        self,
-        f: &mut fmt::Formatter<W>,
-        mark: &str,
-        bytes: &[u8],
-    ) -> fmt::Result {
+    fn show_front<W: Write>(self, f: &mut Formatter<W>, mark: &str, bytes: &[u8]) -> fmt::Result {
         f.write_str(mark)?;
         self.show(f, bytes.get(..MOST).unwrap_or(bytes))?;
         f.write_str(dots(bytes))
     }
 
     /// Shows bytes.
-    fn show<W: fmt::Write>(self, f: &mut fmt::Formatter<W>, bytes: &[u8]) -> fmt::Result {
+    fn show<W: Write>(self, f: &mut Formatter<W>, bytes: &[u8]) -> fmt::Result {
         for byte in bytes {
             self.show_byte(f, *byte)?;
         }
@@ -135,7 +130,7 @@ impl MarkedWord<'_> {
     }
 
     /// Shows one byte.
-    fn show_byte<W: fmt::Write>(self, f: &mut fmt::Formatter<W>, byte: u8) -> fmt::Result {
+    fn show_byte<W: Write>(self, f: &mut Formatter<W>, byte: u8) -> fmt::Result {
         if self.has_lone_marks && is_mark(byte) {
             show_code(f, byte)
         } else {

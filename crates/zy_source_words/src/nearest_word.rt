@@ -1,7 +1,7 @@
 //! The known word that is nearest to a mistyped one.
 
 use crate::prefix::common_prefix;
-use std::fmt;
+use std::fmt::{self, Formatter, Write};
 use zy_text::names::is;
 
 /// The known word that is nearest to another one.
@@ -51,7 +51,7 @@ fn one_mistake_away<'a>(word: &[u8], known: &[&'a str]) -> Option<&'a str> {
 }
 
 impl fmt::Display for NearestWord<'_> {
-    fn fmt<W: fmt::Write>(&self, f: &mut fmt::Formatter<W>) -> fmt::Result {
+    fn fmt<W: Write>(&self, f: &mut Formatter<W>) -> fmt::Result {
         match self {
             NearestWord::Lowercase(name) => write!(f, "write it in small letters, {name}"),
             NearestWord::OneMistake(name) => write!(f, "did you mean {name}"),
@@ -60,8 +60,8 @@ impl fmt::Display for NearestWord<'_> {
 }
 
 /// Shows the nearest word, or else this text.
-pub fn show_nearest<W: fmt::Write>(
-    f: &mut fmt::Formatter<W>,
+pub fn show_nearest<W: Write>(
+    f: &mut Formatter<W>,
     nearest: Option<NearestWord<'_>>,
     otherwise: &str,
 ) -> fmt::Result {

@@ -1,7 +1,7 @@
 //! Negative numbers. A register holds -n as 2^32 - n.
 
 use crate::line::Statement;
-use std::fmt;
+use std::fmt::{self, Formatter, Write};
 use zy_text::numbers::number_of;
 
 /// How many values a register has.
@@ -39,7 +39,7 @@ impl Negative {
 
 /// The value that a register holds for it, and how to compute that value.
 impl fmt::Display for Negative {
-    fn fmt<W: fmt::Write>(&self, f: &mut fmt::Formatter<W>) -> fmt::Result {
+    fn fmt<W: Write>(&self, f: &mut Formatter<W>) -> fmt::Result {
         let Negative(number) = *self;
         write!(
             f,

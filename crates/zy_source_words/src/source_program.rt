@@ -4,7 +4,7 @@ use crate::bytes::Bytes;
 use crate::label::{label, operation_at, target};
 use crate::line::{SourceLine, Statement, is_line_feed};
 use crate::nearest_word::is_near;
-use std::fmt;
+use std::fmt::{self, Formatter, Write};
 use zy_isa::MAX_TXNS;
 use zy_text::names::{is, is_numeral};
 
@@ -152,7 +152,7 @@ fn has_instruction(line: &[u8]) -> bool {
 
 /// Its number, and its name if it has one.
 impl fmt::Display for SourceProgram<'_> {
-    fn fmt<W: fmt::Write>(&self, f: &mut fmt::Formatter<W>) -> fmt::Result {
+    fn fmt<W: Write>(&self, f: &mut Formatter<W>) -> fmt::Result {
         let number = self.number;
         if is_numeral(self.word) {
             write!(f, "program {number}")
