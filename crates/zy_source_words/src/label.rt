@@ -11,10 +11,7 @@ pub fn label(statement: Statement<'_>) -> Option<&[u8]> {
 
 /// The number of the word at which a statement's instruction begins: 1 behind a label, else 0.
 pub fn operation_at(statement: Statement<'_>) -> usize {
-    match label(statement) {
-        Some(_) => 1,
-        None => 0,
-    }
+    usize::from(label(statement).is_some())
 }
 
 /// The label that is the target of a statement's jump.

@@ -82,11 +82,6 @@ impl fmt::Display for MarkedWord<'_> {
     }
 }
 
-/// Whether a byte looks like one of the marks.
-fn is_mark(byte: u8) -> bool {
-    byte == b'<' || byte == b'>'
-}
-
 /// The dots for the bytes that are cut off, if any are.
 fn dots(bytes: &[u8]) -> &'static str {
     if bytes.len() > MOST { ".." } else { "" }
@@ -124,17 +119,11 @@ impl MarkedWord<'_> {
     /// Shows bytes.
     fn show<W: Write>(self, f: &mut Formatter<W>, bytes: &[u8]) -> fmt::Result {
         for byte in bytes {
-            self.show_byte(f, *byte)?;
+            match *byte {
+                mark @ (b'<' | b'>') if self.has_lone_marks => show_code(f, mark)?,
+                other => show_byte(f, other)?,
+            }
         }
         Ok(())
-    }
-
-    /// Shows one byte.
-    fn show_byte<W: Write>(self, f: &mut Formatter<W>, byte: u8) -> fmt::Result {
-        if self.has_lone_marks && is_mark(byte) {
-            show_code(f, byte)
-        } else {
-            show_byte(f, byte)
-        }
     }
 }

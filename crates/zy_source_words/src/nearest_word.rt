@@ -16,10 +16,12 @@ pub enum NearestWord<'a> {
 impl<'a> NearestWord<'a> {
     /// The nearest of these words, if any is near.
     pub fn of(word: &[u8], known: &[&'a str]) -> Option<NearestWord<'a>> {
-        match in_lowercase(word, known) {
-            Some(name) => Some(NearestWord::Lowercase(name)),
-            None => one_mistake_away(word, known).map(NearestWord::OneMistake),
+        for name in known {
+            if word.eq_ignore_ascii_case(name.as_bytes()) {
+                return Some(NearestWord::Lowercase(*name));
+            }
         }
+        one_mistake_away(word, known).map(NearestWord::OneMistake)
     }
 
     /// The word itself.
@@ -30,24 +32,12 @@ impl<'a> NearestWord<'a> {
     }
 }
 
-/// The first of these words that is this one but for capital letters.
-fn in_lowercase<'a>(word: &[u8], known: &[&'a str]) -> Option<&'a str> {
-    for name in known {
-        if word.eq_ignore_ascii_case(name.as_bytes()) {
-            return Some(*name);
-        }
-    }
-    None
-}
-
 /// The first of these words from which this one differs by one mistake.
 fn one_mistake_away<'a>(word: &[u8], known: &[&'a str]) -> Option<&'a str> {
-    for name in known {
-        if is_one_mistake_away(word, name.as_bytes()) {
-            return Some(*name);
-        }
-    }
-    None
+    let mut names = known.iter();
+    names
+        .find(|name| is_one_mistake_away(word, name.as_bytes()))
+        .copied()
 }
 
 impl fmt::Display for NearestWord<'_> {
@@ -66,7 +56,7 @@ pub fn show_nearest<W: Write>(
     otherwise: &str,
 ) -> fmt::Result {
     match nearest {
-        Some(nearest) => fmt::Display::fmt(&nearest, f),
+        Some(nearest) => write!(f, "{nearest}"),
         None => f.write_str(otherwise),
     }
 }
@@ -98,14 +88,9 @@ fn is_one_mistake_away(word: &[u8], other: &[u8]) -> bool {
 
 /// The length of the longest common suffix of two words.
 fn common_suffix(word: &[u8], other: &[u8]) -> usize {
-    let mut count = 0usize;
-    for (byte, there) in word.iter().rev().zip(other.iter().rev()) {
-        if byte != there {
-            return count;
-        }
-        count = count.saturating_add(1);
-    }
-    count
+    let mut pairs = word.iter().rev().zip(other.iter().rev());
+    let differing = pairs.position(|(byte, there)| byte != there);
+    differing.unwrap_or(word.len().min(other.len()))
 }
 
 /// Whether the differing middles of two words are one mistake.

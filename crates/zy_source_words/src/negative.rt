@@ -19,11 +19,7 @@ impl Negative {
 
     /// Minus this number, if a register can hold it.
     pub fn minus(number: u64) -> Option<Negative> {
-        if (1..VALUES).contains(&number) {
-            Some(Negative(number))
-        } else {
-            None
-        }
+        (1..VALUES).contains(&number).then_some(Negative(number))
     }
 
     /// The first negative number behind the first word of a statement.

@@ -4,14 +4,9 @@ use zy_text::numbers::number_of;
 
 /// The length of the longest common prefix of two texts.
 pub fn common_prefix(text: &[u8], other: &[u8]) -> usize {
-    let mut count = 0usize;
-    for (byte, there) in text.iter().zip(other.iter()) {
-        if byte != there {
-            return count;
-        }
-        count = count.saturating_add(1);
-    }
-    count
+    let mut pairs = text.iter().zip(other.iter());
+    let differing = pairs.position(|(byte, there)| byte != there);
+    differing.unwrap_or(text.len().min(other.len()))
 }
 
 /// The rest of a word behind a prefix, if that rest is a number.

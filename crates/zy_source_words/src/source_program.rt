@@ -95,12 +95,9 @@ impl<'a> SourceProgram<'a> {
 
     /// The number of the line that defines this label.
     pub fn line_of_label(self, name: &[u8]) -> Option<usize> {
-        for (index, bytes) in self.below.split(is_line_feed).enumerate() {
-            if has_label(bytes, name) {
-                return Some(self.number_at(index));
-            }
-        }
-        None
+        let mut lines = self.below.split(is_line_feed);
+        let index = lines.position(|line| has_label(line, name))?;
+        Some(self.number_at(index))
     }
 
     /// The first line with a target that no line defines, and that target.
@@ -138,10 +135,7 @@ impl<'a> SourceProgram<'a> {
 
 /// Whether a line defines this label.
 fn has_label(line: &[u8], name: &[u8]) -> bool {
-    match label(Statement::of(line)) {
-        Some(label) => is(label, name),
-        None => false,
-    }
+    label(Statement::of(line)).is_some_and(|label| is(label, name))
 }
 
 /// Whether a line of a program has an instruction.
