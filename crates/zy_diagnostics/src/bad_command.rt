@@ -1,9 +1,8 @@
 //! Advice on a line that is not a command of the debugger.
 
 use std::fmt::{self, Formatter, Write};
-use zy_source_words::nearest_word::{is_one_of, show_nearest};
+use zy_source_words::nearest_word::show_nearest;
 use zy_source_words::{Bytes, NearestWord, Quoted, Statement};
-use zy_text::names::is;
 use zy_text::numbers::number_of;
 
 /// The first words of the commands.
@@ -31,32 +30,17 @@ enum Takes {
 impl Takes {
     /// What the command with this first word takes.
     fn of(word: &[u8]) -> Option<Takes> {
-        if is_one_of(word, &["cont", "rcont", "links", "where"]) {
-            Some(Takes::Lone)
-        } else if is(word, b"break") {
-            Some(Takes::Break)
-        } else if is(word, b"node") {
-            Some(Takes::Node)
-        } else {
-            Some(Takes::Number(letter_of(word)?))
+        match word {
+            b"cont" | b"rcont" | b"links" | b"where" => Some(Takes::Lone),
+            b"step" | b"back" | b"goto" => Some(Takes::Number("N")),
+            b"watch" => Some(Takes::Number("K")),
+            b"delete" => Some(Takes::Number("I")),
+            b"page" => Some(Takes::Number("P")),
+            b"txn" => Some(Takes::Number("T")),
+            b"break" => Some(Takes::Break),
+            b"node" => Some(Takes::Node),
+            _ => None,
         }
-    }
-}
-
-/// The letter for the number that a command takes.
-fn letter_of(word: &[u8]) -> Option<&'static str> {
-    if is_one_of(word, &["step", "back", "goto"]) {
-        Some("N")
-    } else if is(word, b"watch") {
-        Some("K")
-    } else if is(word, b"delete") {
-        Some("I")
-    } else if is(word, b"page") {
-        Some("P")
-    } else if is(word, b"txn") {
-        Some("T")
-    } else {
-        None
     }
 }
 
@@ -103,16 +87,13 @@ impl<'a> BadCommand<'a> {
 
     /// Says what `break` takes.
     fn tell_break<W: Write>(&self, f: &mut Formatter<W>) -> fmt::Result {
-        let word = self.line.text(1);
-        if is(word, b"page") {
-            return self.tell_number(f, Bytes(b"break page"), "P", 2);
-        }
-        if is(word, b"mode") || is(word, b"abort") {
-            return f.write_str("nothing comes behind break mode and break abort");
-        }
-        match NearestWord::of(word, &STOPS) {
-            Some(meant) => write!(f, "break has no {}: {meant}", Quoted(word)),
-            None => f.write_str("it is break page P, break mode or break abort"),
+        match self.line.text(1) {
+            b"page" => self.tell_number(f, Bytes(b"break page"), "P", 2),
+            b"mode" | b"abort" => f.write_str("nothing comes behind break mode and break abort"),
+            word => match NearestWord::of(word, &STOPS) {
+                Some(meant) => write!(f, "break has no {}: {meant}", Quoted(word)),
+                None => f.write_str("it is break page P, break mode or break abort"),
+            },
         }
     }
 }
