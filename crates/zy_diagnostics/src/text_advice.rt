@@ -4,7 +4,6 @@ use crate::command::{CommandName, ForImage};
 use crate::image_advice::is_image;
 use crate::statement_form::StatementForm;
 use crate::statement_order::tell_not_above;
-use crate::unknown_word::UnknownWord;
 use std::fmt::{self, Formatter, Write};
 use std::str::from_utf8;
 use zy_asm::{LineFault, LinesAbove, Reason};
@@ -63,7 +62,7 @@ impl<'a> TextAdvice<'a> {
 impl fmt::Display for TextAdvice<'_> {
     fn fmt<W: Write>(&self, f: &mut Formatter<W>) -> fmt::Result {
         if is_image(self.input) {
-            return fmt::Display::fmt(&ForImage(self.command), f);
+            return write!(f, "{}", ForImage(self.command));
         }
         self.tell(f)?;
         match self.marked_word() {
@@ -119,16 +118,6 @@ impl<'a> TextAdvice<'a> {
         }
     }
 
-    /// Says what is wrong with an unknown word.
-    fn tell_not_known<W: Write>(&self, f: &mut Formatter<W>) -> fmt::Result {
-        let unknown = UnknownWord {
-            statement: self.statement,
-            at: self.at,
-            above: self.above,
-        };
-        unknown.tell(f)
-    }
-
     /// Says what is wrong with a line that is well formed but does not fit the others.
     fn tell_of_others<W: Write>(&self, f: &mut Formatter<W>) -> fmt::Result {
         match self.reason {
@@ -140,7 +129,7 @@ impl<'a> TextAdvice<'a> {
             Reason::PageCount { .. } => self.tell_page_count(f),
             _ => match self.program() {
                 Some(program) => self.tell_of_program(f, program),
-                None => fmt::Display::fmt(&self.reason, f),
+                None => write!(f, "{}", self.reason),
             },
         }
     }

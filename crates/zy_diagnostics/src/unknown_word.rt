@@ -2,6 +2,7 @@
 
 use crate::instruction_words::{INSTRUCTIONS, is_instruction, show_instructions, show_near};
 use crate::statement_form::{CLIENT_ACTIONS, NODE_ACTIONS, Shape, StatementForm};
+use crate::text_advice::TextAdvice;
 use crate::word_advice::tell_commas;
 use std::fmt::{self, Formatter, Write};
 use zy_asm::{LinesAbove, Stage};
@@ -13,26 +14,13 @@ use zy_text::numbers::number_of;
 /// The first words of the statements that are not instructions and not choices.
 const OTHERS: [&'static str; 7] = ["row", "txn", "end", "zephyr", "cap", "pages", "rule"];
 
-/// The unknown word of this number in a line.
-#[derive(Clone, Copy)]
-pub struct UnknownWord<'a> {
-    pub statement: Statement<'a>,
-    pub at: usize,
-    pub above: LinesAbove,
-}
-
-impl<'a> UnknownWord<'a> {
-    /// Says what is wrong, and what to write.
-    pub fn tell<W: Write>(&self, f: &mut Formatter<W>) -> fmt::Result {
-        match StatementForm::of(self.above.version, self.statement) {
+impl<'a> TextAdvice<'a> {
+    /// Says what is wrong with an unknown word, and what to write.
+    pub(crate) fn tell_not_known<W: Write>(&self, f: &mut Formatter<W>) -> fmt::Result {
+        match self.form() {
             Some(form) => self.tell_behind(f, form),
             None => self.tell_first(f),
         }
-    }
-
-    /// The word.
-    fn word(&self) -> &'a [u8] {
-        self.statement.text(self.at)
     }
 
     /// Says what may follow a known word.
@@ -80,7 +68,7 @@ impl<'a> UnknownWord<'a> {
         form: StatementForm<'a>,
     ) -> fmt::Result {
         tell_commas(f, self.word())?;
-        fmt::Display::fmt(&form.pattern(), f)?;
+        write!(f, "{}", form.pattern())?;
         match Negative::of(self.word()) {
             Some(negative) if form.has_value_at(self.at) => {
                 write!(f, ", with {negative}, in a register")
@@ -124,14 +112,11 @@ impl<'a> UnknownWord<'a> {
 
 /// The advice on the first two words of a line that is the same in every text.
 fn advice_for(word: &[u8], next: &[u8]) -> Option<&'static str> {
-    if begins_other_comment(word) {
-        Some("a comment begins with ;")
-    } else if is(word, b"a") || is(word, b"b") || is(word, b"c") {
-        Some("the actors are A, B and C, in capital letters")
-    } else if is_action(next) {
-        Some("the actors are A, B and C")
-    } else {
-        None
+    match word {
+        b"a" | b"b" | b"c" => Some("the actors are A, B and C, in capital letters"),
+        _ if begins_other_comment(word) => Some("a comment begins with ;"),
+        _ if is_action(next) => Some("the actors are A, B and C"),
+        _ => None,
     }
 }
 
@@ -215,8 +200,8 @@ fn tell_action_of_node<W: Write>(
     }
     f.write_str(": ")?;
     match NearestWord::of(action, &NODE_ACTIONS) {
-        Some(nearest) => fmt::Display::fmt(&nearest, f),
-        None => fmt::Display::fmt(&form.pattern(), f),
+        Some(nearest) => write!(f, "{nearest}"),
+        None => write!(f, "{}", form.pattern()),
     }
 }
 
