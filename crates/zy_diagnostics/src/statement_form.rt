@@ -5,7 +5,6 @@ use zy_isa::{Operation, PairOperation, Version};
 use zy_source_words::label::operation_at;
 use zy_source_words::nearest_word::is_one_of;
 use zy_source_words::{Bytes, Statement};
-use zy_text::names::is;
 
 /// The actions of the client.
 pub const CLIENT_ACTIONS: [&'static str; 3] = ["start", "begin", "kill"];
@@ -113,62 +112,46 @@ fn shape_of(version: Version, first: &[u8], second: &[u8]) -> Option<Shape> {
             Operation::Lone(_) => Shape::Lone,
         });
     }
-    if is(first, b"row") {
-        Some(Shape::Row)
-    } else if is(first, b"txn") {
-        Some(Shape::Txn)
-    } else if is(first, b"end") {
-        Some(Shape::Lone)
-    } else if is(first, b"C") {
-        Some(client_shape(second))
-    } else if is(first, b"A") || is(first, b"B") {
-        Some(node_shape(second))
-    } else {
-        None
+    match first {
+        b"row" => Some(Shape::Row),
+        b"txn" => Some(Shape::Txn),
+        b"end" => Some(Shape::Lone),
+        b"C" => Some(client_shape(second)),
+        b"A" | b"B" => Some(node_shape(second)),
+        _ => None,
     }
 }
 
 /// The shape of the client's choice with this action; `Client` if it has no such action.
 fn client_shape(action: &[u8]) -> Shape {
-    if is(action, b"begin") || is(action, b"kill") {
-        Shape::OnTxn
-    } else if is(action, b"start") {
-        Shape::Plain
-    } else {
-        Shape::Client
+    match action {
+        b"begin" | b"kill" => Shape::OnTxn,
+        b"start" => Shape::Plain,
+        _ => Shape::Client,
     }
 }
 
 /// The shape of a node's choice with this action; `Node` if it has no such action.
 fn node_shape(action: &[u8]) -> Shape {
-    if is(action, b"run") {
-        Shape::OnTxn
-    } else if is_one_of(action, &NODE_ACTIONS) {
-        Shape::Plain
-    } else {
-        Shape::Node
+    match action {
+        b"run" => Shape::OnTxn,
+        _ if is_one_of(action, &NODE_ACTIONS) => Shape::Plain,
+        _ => Shape::Node,
     }
 }
 
 /// What it takes, and how to write it.
 impl fmt::Display for StatementForm<'_> {
     fn fmt<W: Write>(&self, f: &mut Formatter<W>) -> fmt::Result {
-        self.tell_takes(f)?;
-        write!(f, ": {}", self.pattern())
-    }
-}
-
-impl StatementForm<'_> {
-    /// Says what it takes.
-    fn tell_takes<W: Write>(self, f: &mut Formatter<W>) -> fmt::Result {
         let (first, takes) = (Bytes(self.first), self.shape.takes());
         match self.shape {
-            Shape::Client | Shape::Node => write!(f, "behind {first} comes {takes}"),
+            Shape::Client | Shape::Node => write!(f, "behind {first} comes {takes}")?,
             Shape::OnTxn | Shape::Plain => {
-                write!(f, "{first} {} takes {takes}", Bytes(self.second))
+                write!(f, "{first} {} takes {takes}", Bytes(self.second))?
             }
-            _ => write!(f, "{first} takes {takes}"),
+            _ => write!(f, "{first} takes {takes}")?,
         }
+        write!(f, ": {}", self.pattern())
     }
 }
 
@@ -195,49 +178,24 @@ pub struct Pattern<'a>(StatementForm<'a>);
 
 impl fmt::Display for Pattern<'_> {
     fn fmt<W: Write>(&self, f: &mut Formatter<W>) -> fmt::Result {
-        let form = self.0;
+        let Pattern(form) = *self;
+        let (first, second) = (Bytes(form.first), Bytes(form.second));
         match form.shape {
             Shape::Row => f.write_str("row K V"),
             Shape::Txn => f.write_str("txn T"),
-            Shape::Number => form.show(f, " rA N"),
-            Shape::Pair(_) => form.show(f, " rA rB"),
-            Shape::Jump => form.show_jump(f),
-            Shape::Lone => form.show(f, ""),
+            Shape::Number => write!(f, "{first} rA N"),
+            Shape::Pair(_) => write!(f, "{first} rA rB"),
+            Shape::Jump => write!(f, "{first} rA rB LABEL, or {first} rA rB @N"),
+            Shape::Lone => write!(f, "{first}"),
             Shape::Client => f.write_str("C start, C begin T or C kill T"),
-            Shape::Node => form.show_actions(f),
-            Shape::OnTxn => form.show_choice(f, " T"),
-            Shape::Plain => form.show_choice(f, ""),
+            Shape::Node => {
+                write!(
+                    f,
+                    "{first} run T, {first} take, {first} push or {first} finish"
+                )
+            }
+            Shape::OnTxn => write!(f, "{first} {second} T, or {first} {second} T x N"),
+            Shape::Plain => write!(f, "{first} {second}, or {first} {second} x N"),
         }
-    }
-}
-
-impl StatementForm<'_> {
-    /// Shows its first word, and this behind it.
-    fn show<W: Write>(self, f: &mut Formatter<W>, behind: &str) -> fmt::Result {
-        write!(f, "{}{behind}", Bytes(self.first))
-    }
-
-    /// Shows a jump to a label, and one to a number.
-    fn show_jump<W: Write>(self, f: &mut Formatter<W>) -> fmt::Result {
-        let first = Bytes(self.first);
-        write!(f, "{first} rA rB LABEL, or {first} rA rB @N")
-    }
-
-    /// Shows a choice that is made once, and one that is made several times, with this behind the action.
-    fn show_choice<W: Write>(self, f: &mut Formatter<W>, behind: &str) -> fmt::Result {
-        let (actor, action) = (Bytes(self.first), Bytes(self.second));
-        write!(
-            f,
-            "{actor} {action}{behind}, or {actor} {action}{behind} x N"
-        )
-    }
-
-    /// Shows the choices of a node.
-    fn show_actions<W: Write>(self, f: &mut Formatter<W>) -> fmt::Result {
-        f.write_str(if is(self.first, b"A") {
-            "A run T, A take, A push or A finish"
-        } else {
-            "B run T, B take, B push or B finish"
-        })
     }
 }
