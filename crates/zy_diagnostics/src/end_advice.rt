@@ -20,12 +20,10 @@ fn is_end(line: &[u8]) -> bool {
 
 /// The output of `run` or `trace` that has this word below its line `end`.
 fn output_with(word: &[u8]) -> Option<&'static str> {
-    if is(word, b"steps") {
-        Some("listing")
-    } else if is(word, b"trace") {
-        Some("trace")
-    } else {
-        None
+    match word {
+        b"steps" => Some("listing"),
+        b"trace" => Some("trace"),
+        _ => None,
     }
 }
 
@@ -73,7 +71,7 @@ impl TextAdvice<'_> {
     fn tell_end<W: Write>(&self, f: &mut Formatter<W>) -> fmt::Result {
         match self.line_of(&["end"]) {
             Some(line) => write!(f, "{}, which is line {line}", self.reason),
-            None => fmt::Display::fmt(&self.reason, f),
+            None => write!(f, "{}", self.reason),
         }
     }
 

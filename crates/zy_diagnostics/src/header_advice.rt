@@ -35,7 +35,7 @@ impl TextAdvice<'_> {
     /// Says what is wrong with a line of the header.
     pub(crate) fn tell_header<W: Write>(&self, f: &mut Formatter<W>) -> fmt::Result {
         let Some(statement) = HeaderStatement::of(self.above.stage) else {
-            return fmt::Display::fmt(&self.reason, f);
+            return write!(f, "{}", self.reason);
         };
         if let Some(told) = self.wrong_bytes() {
             f.write_str(told)
@@ -74,7 +74,7 @@ impl TextAdvice<'_> {
         }
     }
 
-    /// Says that this statement of the header should be here.
+    /// Says that this statement of the header should be here, and how the first word should be written if it is near to that.
     fn tell_other_statement<W: Write>(
         &self,
         f: &mut Formatter<W>,
@@ -91,7 +91,14 @@ impl TextAdvice<'_> {
         if begins_other_comment(word) {
             return f.write_str(": a comment begins with ;");
         }
-        tell_near_word(f, word, statement.word)
+        let first = statement.word;
+        if let Some(number) = number_behind(word, first.as_bytes()) {
+            return write!(f, ": {first} {}, with a space between", Bytes(number));
+        }
+        match NearestWord::of(word, &[first]) {
+            Some(nearest) => write!(f, ": {nearest}"),
+            None => Ok(()),
+        }
     }
 
     /// Says what is wrong where a byte is not UTF-8.
@@ -100,16 +107,5 @@ impl TextAdvice<'_> {
             Some(told) => f.write_str(told),
             None => write!(f, "{}: save the text as UTF-8", self.reason),
         }
-    }
-}
-
-/// Says how the first word of a statement of the header should be written, if a word is near to it.
-fn tell_near_word<W: Write>(f: &mut Formatter<W>, word: &[u8], first: &'static str) -> fmt::Result {
-    if let Some(number) = number_behind(word, first.as_bytes()) {
-        return write!(f, ": {first} {}, with a space between", Bytes(number));
-    }
-    match NearestWord::of(word, &[first]) {
-        Some(nearest) => write!(f, ": {nearest}"),
-        None => Ok(()),
     }
 }

@@ -55,7 +55,7 @@ impl<'a> ImageAdvice<'a> {
 
 impl fmt::Display for ImageAdvice<'_> {
     fn fmt<W: Write>(&self, f: &mut Formatter<W>) -> fmt::Result {
-        fmt::Display::fmt(&self.refusal, f)?;
+        write!(f, "{}", self.refusal)?;
         if self.input.is_empty() {
             f.write_str("; the input is empty")
         } else if is_text(self.input) {

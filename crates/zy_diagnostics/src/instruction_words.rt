@@ -25,7 +25,7 @@ pub fn show_near<W: Write>(
     version: Version,
     nearest: NearestWord<'_>,
 ) -> fmt::Result {
-    fmt::Display::fmt(&nearest, f)?;
+    write!(f, "{nearest}")?;
     let word = nearest.word();
     if is_instruction(word.as_bytes()) && !is_of(version, word) {
         f.write_str(", an instruction of version 2, which begins with zephyr 2")

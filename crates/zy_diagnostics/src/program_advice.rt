@@ -45,7 +45,7 @@ impl<'a> TextAdvice<'a> {
     pub(crate) fn tell_name_twice<W: Write>(&self, f: &mut Formatter<W>) -> fmt::Result {
         match SourceProgram::named(self.lines, self.word()) {
             Some(program) => write!(f, "{}: {program}, in line {}", self.reason, program.line),
-            None => fmt::Display::fmt(&self.reason, f),
+            None => write!(f, "{}", self.reason),
         }
     }
 
@@ -60,19 +60,23 @@ impl<'a> TextAdvice<'a> {
             Reason::LabelTwice(_) => self.tell_label_twice(f, program),
             Reason::NoProgram { fault, .. } => self.tell_no_program(f, program, fault),
             Reason::InstrCount => write!(f, "{}, and {program} has them already", self.reason),
-            _ => fmt::Display::fmt(&self.reason, f),
+            _ => write!(f, "{}", self.reason),
         }
     }
 
-    /// Says that a program lacks a label.
+    /// Says which label a program lacks, and which one is near.
     fn tell_no_label<W: Write>(
         &self,
         f: &mut Formatter<W>,
         program: SourceProgram<'_>,
     ) -> fmt::Result {
-        match program.missing_label() {
-            Some((_, name)) => tell_missing_label(f, program, name),
-            None => fmt::Display::fmt(&self.reason, f),
+        let Some((_, name)) = program.missing_label() else {
+            return write!(f, "{}", self.reason);
+        };
+        write!(f, "the label {} is not defined in {program}", Quoted(name))?;
+        match program.nearest_label(name) {
+            Some(label) => write!(f, ": did you mean {}", Quoted(label)),
+            None => Ok(()),
         }
     }
 
@@ -89,7 +93,7 @@ impl<'a> TextAdvice<'a> {
                 "the label {} is in {program} already, in line {line}",
                 Quoted(label)
             ),
-            None => fmt::Display::fmt(&self.reason, f),
+            None => write!(f, "{}", self.reason),
         }
     }
 
@@ -105,38 +109,18 @@ impl<'a> TextAdvice<'a> {
                 f,
                 "{program} has no instruction: the last one is commit or abort"
             ),
-            ProgramFault::Target(at) => tell_stray_target(f, program, at),
+            ProgramFault::Target(at) => {
+                let last = program.count().saturating_sub(1);
+                write!(
+                    f,
+                    "the target of instruction {at} of {program} is outside it: its instructions are 0 to {last}"
+                )
+            }
             ProgramFault::NoEnd => write!(
                 f,
                 "{program} does not end with commit or abort: put one below its last instruction"
             ),
-            _ => fmt::Display::fmt(&self.reason, f),
+            _ => write!(f, "{}", self.reason),
         }
     }
-}
-
-/// Says which label a program lacks, and which one is near.
-fn tell_missing_label<W: Write>(
-    f: &mut Formatter<W>,
-    program: SourceProgram<'_>,
-    name: &[u8],
-) -> fmt::Result {
-    write!(f, "the label {} is not defined in {program}", Quoted(name))?;
-    match program.nearest_label(name) {
-        Some(label) => write!(f, ": did you mean {}", Quoted(label)),
-        None => Ok(()),
-    }
-}
-
-/// Says that the target of the instruction of this number is outside its program.
-fn tell_stray_target<W: Write>(
-    f: &mut Formatter<W>,
-    program: SourceProgram<'_>,
-    at: u8,
-) -> fmt::Result {
-    let last = program.count().saturating_sub(1);
-    write!(
-        f,
-        "the target of instruction {at} of {program} is outside it: its instructions are 0 to {last}"
-    )
 }

@@ -31,7 +31,7 @@ impl TextAdvice<'_> {
         if length > MAX_NAME {
             write!(f, "{}: this one has {length}", self.reason)
         } else {
-            fmt::Display::fmt(&self.reason, f)
+            write!(f, "{}", self.reason)
         }
     }
 
@@ -70,9 +70,9 @@ impl TextAdvice<'_> {
             }
             Some(form) => {
                 tell_commas(f, self.statement.bytes)?;
-                fmt::Display::fmt(&form, f)
+                write!(f, "{form}")
             }
-            None => fmt::Display::fmt(&self.reason, f),
+            None => write!(f, "{}", self.reason),
         }
     }
 
@@ -90,7 +90,7 @@ impl TextAdvice<'_> {
         } else if self.at > form.words() {
             form.tell(f, "nothing comes behind x N")
         } else {
-            fmt::Display::fmt(&form, f)
+            write!(f, "{form}")
         }
     }
 
@@ -106,7 +106,7 @@ impl TextAdvice<'_> {
 
     /// Says how to write a statement with a wrong value.
     fn tell_value<W: Write>(&self, f: &mut Formatter<W>, form: StatementForm<'_>) -> fmt::Result {
-        fmt::Display::fmt(&form.pattern(), f)?;
+        write!(f, "{}", form.pattern())?;
         match Negative::of(self.word()) {
             Some(negative) if form.has_value_at(self.at) => { write!(f, ", here {negative}") }
             _ => Ok(()),
