@@ -7,7 +7,7 @@ use zy_search::{ChoiceKinds, SearchAnswer, SearchReport};
 #[derive(Clone, Copy)]
 pub struct Summary<'a> {
     report: &'a SearchReport,
-    kinds: ChoiceKinds,
+    left_out: LeftOut,
     is_always: bool,
 }
 
@@ -17,14 +17,9 @@ impl<'a> Summary<'a> {
     pub fn of(report: &'a SearchReport, kinds: ChoiceKinds, is_always: bool) -> Summary<'a> {
         Summary {
             report,
-            kinds,
+            left_out: LeftOut(kinds),
             is_always,
         }
-    }
-
-    /// The kinds of choices that were left out.
-    fn left_out(self) -> LeftOut {
-        LeftOut(self.kinds)
     }
 
     /// Writes after how many states a schedule was found, and how many choices it adds.
@@ -36,17 +31,17 @@ impl<'a> Summary<'a> {
             f.write_str("it does not always hold: ")?;
         }
         write!(f, "found after {states}: {choices} {verb} there")?;
-        if self.left_out().is_usual() {
+        if self.left_out.is_usual() {
             return Ok(());
         }
-        write!(f, "{}", self.left_out())
+        write!(f, "{}", self.left_out)
     }
 
     /// Writes that no state shows it, or that every state meets it.
     fn write_none<W: Write>(self, f: &mut Formatter<W>) -> fmt::Result {
         let states = Count::of(self.report.states, "state");
         let most = Count::of(self.report.depth, "choice");
-        let left_out = self.left_out();
+        let left_out = self.left_out;
         if self.is_always {
             write!(f, "it holds in each of {states}")?;
         } else {
@@ -63,7 +58,7 @@ impl<'a> Summary<'a> {
         let states = Count::of(self.report.states, "state");
         let is_unjudged = fewer == 0;
         let fewer = Count::of(fewer, "choice");
-        let left_out = self.left_out();
+        let left_out = self.left_out;
         write!(f, "gave up after {states}: ")?;
         if self.is_always {
             write!(
@@ -102,60 +97,38 @@ impl LeftOut {
         kinds.start && kinds.begin && kinds.run && kinds.take && kinds.finish && kinds.push
     }
 
-    /// How many kinds were left out.
-    fn count(self) -> u8 {
+    /// Each kind in the words of a summary, and whether it was left out.
+    fn kinds(self) -> [(&'static str, bool); 7] {
         let LeftOut(kinds) = self;
-        u8::from(!kinds.start)
-            + u8::from(!kinds.begin)
-            + u8::from(!kinds.kill)
-            + u8::from(!kinds.run)
-            + u8::from(!kinds.take)
-            + u8::from(!kinds.finish)
-            + u8::from(!kinds.push)
-    }
-}
-
-/// Words of a list that is written from its first one on.
-#[derive(Clone, Copy)]
-struct Listed {
-    /// How many words come yet.
-    left: u8,
-    /// Whether one has come.
-    is_begun: bool,
-}
-
-impl Listed {
-    /// Writes a word, if it is one of the list, and what is between it and the one before.
-    fn write<W: Write>(&mut self, f: &mut Formatter<W>, word: &str, is_there: bool) -> fmt::Result {
-        if !is_there {
-            return Ok(());
-        }
-        let is_last = self.is_begun && self.left == 1;
-        self.left = self.left.saturating_sub(1);
-        self.is_begun = true;
-        f.write_str(if is_last { " and " } else { ", " })?;
-        f.write_str(word)
+        [
+            ("starts", !kinds.start),
+            ("begins", !kinds.begin),
+            ("kills", !kinds.kill),
+            ("runs", !kinds.run),
+            ("takes", !kinds.take),
+            ("finishes", !kinds.finish),
+            ("pushes", !kinds.push),
+        ]
     }
 }
 
 impl fmt::Display for LeftOut {
     fn fmt<W: Write>(&self, f: &mut Formatter<W>) -> fmt::Result {
-        let LeftOut(kinds) = *self;
-        let mut listed = Listed {
-            left: self.count(),
-            is_begun: false,
-        };
-        if listed.left == 0 {
-            return Ok(());
+        let kinds = self.kinds();
+        let count = kinds.iter().filter(|(_, is_out)| *is_out).count();
+        let mut listed = 0usize;
+        for (word, is_out) in kinds {
+            if is_out {
+                listed = listed.saturating_add(1);
+                let between = if listed > 1 && listed == count {
+                    " and "
+                } else {
+                    ", "
+                };
+                write!(f, "{between}{word}")?;
+            }
         }
-        listed.write(f, "starts", !kinds.start)?;
-        listed.write(f, "begins", !kinds.begin)?;
-        listed.write(f, "kills", !kinds.kill)?;
-        listed.write(f, "runs", !kinds.run)?;
-        listed.write(f, "takes", !kinds.take)?;
-        listed.write(f, "finishes", !kinds.finish)?;
-        listed.write(f, "pushes", !kinds.push)?;
-        f.write_str(" not considered")
+        f.write_str(if count > 0 { " not considered" } else { "" })
     }
 }
 
