@@ -715,7 +715,7 @@ PROGRAM_FAULTS = [
             "^order .'--furthest', 'open', ", 'files'),
     program(4, 'order knows no names of transactions', 'zy_asm/src/names.rt', 'is(first, b"txn")', 'is(first, b"txm")', '^order-found:', 'run'),
     program(5, 'order counts the lines of the client as those of B', 'zy_report/src/furthest.rt',
-            'Actor::C => &mut self.c,', 'Actor::C => &mut self.b,', '^order-nowhere:', 'run'),
+            'Actor::C => &mut all.c,', 'Actor::C => &mut all.b,', '^order-nowhere:', 'run'),
     program(7, '--from takes one more', COMMAND_LINE, 'usize::from(count))', 'usize::from(count) + 1)', '^search-own-words-from:', 'run'),
     program(7, '--without run leaves pushes out', COMMAND_LINE, '            run: false,', '            push: false,', '^search-without-each', 'run'),
     program(3, 'a goal is warned of by its first page alone', 'zy_goals/src/named.rt', 'pages: self.pages.max(other.pages)', 'pages: self.pages', 'both: |a request: ', 'searches'),

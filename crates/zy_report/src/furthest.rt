@@ -16,46 +16,12 @@ use zy_order_engine::{LogFormat, OrderedLogs};
 use zy_source_words::{Position, SourceLine};
 use zy_table::Entry;
 
-/// A number of lines of each actor.
-#[derive(Clone, Copy)]
-pub struct Counts {
-    c: usize,
-    a: usize,
-    b: usize,
-}
-
-impl Counts {
-    /// Those that an order takes.
-    fn taken(taken: Taken) -> Counts {
-        Counts {
-            c: taken.c,
-            a: taken.a,
-            b: taken.b,
-        }
-    }
-
-    /// None.
-    fn none() -> Counts {
-        Counts { c: 0, a: 0, b: 0 }
-    }
-
-    /// How many there are of an actor.
-    fn of(self, actor: Actor) -> usize {
-        match actor {
-            Actor::C => self.c,
-            Actor::A => self.a,
-            Actor::B => self.b,
-        }
-    }
-
-    /// One more of an actor.
-    fn add(&mut self, actor: Actor) {
-        let count = match actor {
-            Actor::C => &mut self.c,
-            Actor::A => &mut self.a,
-            Actor::B => &mut self.b,
-        };
-        *count = count.saturating_add(1);
+/// How many lines of an actor an order takes.
+fn taken_of(taken: Taken, actor: Actor) -> usize {
+    match actor {
+        Actor::C => taken.c,
+        Actor::A => taken.a,
+        Actor::B => taken.b,
     }
 }
 
@@ -77,15 +43,20 @@ fn step_by(line: &NumberedLine, actor: Actor) -> Option<NumberedStep> {
     }
 }
 
-/// How many steps of each actor lines have.
-fn counts_in(lines: &[NumberedLine]) -> Counts {
-    let mut counts = Counts::none();
+/// How many lines of each actor an order of all these takes.
+fn all_of(lines: &[NumberedLine]) -> Taken {
+    let mut all = Taken { c: 0, a: 0, b: 0 };
     for line in lines {
         if let Logged::Step(step) = line.logged {
-            counts.add(step.choice.actor());
+            let count = match step.choice.actor() {
+                Actor::C => &mut all.c,
+                Actor::A => &mut all.a,
+                Actor::B => &mut all.b,
+            };
+            *count = count.saturating_add(1);
         }
     }
-    counts
+    all
 }
 
 /// The end of an order of prefixes of logs.
@@ -98,7 +69,7 @@ pub struct Furthest<'a> {
     /// The lines of the logs.
     lines: &'a [NumberedLine],
     /// How many lines of each actor it takes.
-    taken: Counts,
+    taken: Taken,
 }
 
 impl<'a> Furthest<'a> {
@@ -114,7 +85,7 @@ impl<'a> Furthest<'a> {
             machine,
             logs,
             lines: &ordered.lines,
-            taken: Counts::taken(ordered.report.taken),
+            taken: ordered.report.taken,
         })
     }
 
@@ -128,7 +99,7 @@ impl<'a> Furthest<'a> {
     pub fn reach(&self) -> Reach {
         Reach {
             taken: self.taken,
-            all: counts_in(self.lines),
+            all: all_of(self.lines),
         }
     }
 
@@ -137,7 +108,7 @@ impl<'a> Furthest<'a> {
         let mut passed = 0usize;
         for line in self.lines {
             if let Some(step) = step_by(line, actor) {
-                if passed == self.taken.of(actor) {
+                if passed == taken_of(self.taken, actor) {
                     return Some(step);
                 }
                 passed = passed.saturating_add(1);
@@ -229,8 +200,7 @@ impl<'a> Furthest<'a> {
                 bytes: told_bytes(self.logs, input, line.number),
                 came: behind_arrow(step.as_bytes()),
             };
-            unfit.tell(rt);
-            drop(step);
+            let _ = eprintln!(rt; "{unfit}");
         }
     }
 }
@@ -291,20 +261,19 @@ impl Steps {
 
 impl fmt::Display for Steps {
     fn fmt<W: Write>(&self, f: &mut Formatter<W>) -> fmt::Result {
-        fmt::Display::fmt(&Count::of(self.lines, "line"), f)?;
+        write!(f, "{}", Count::of(self.lines, "line"))?;
         if self.missing == 0 {
             return Ok(());
         }
-        f.write_str(" and ")?;
-        fmt::Display::fmt(&Count::of(self.missing, "missing step"), f)
+        write!(f, " and {}", Count::of(self.missing, "missing step"))
     }
 }
 
 /// How many lines of each actor an order takes, of how many.
 #[derive(Clone, Copy)]
 pub struct Reach {
-    taken: Counts,
-    all: Counts,
+    taken: Taken,
+    all: Taken,
 }
 
 impl fmt::Display for Reach {
@@ -329,18 +298,6 @@ struct Unfit<'a> {
 }
 
 impl<'a> Unfit<'a> {
-    /// Says it on standard error.
-    fn tell(&self, rt: &impl Eprint) {
-        let _ = eprintln!(rt; "{self}");
-    }
-
-    /// Writes the line, and what the table gives there.
-    fn tell_table<W: Write>(&self, f: &mut Formatter<W>) -> fmt::Result {
-        let told = Excerpt::of(self.bytes.trim_ascii(), 0);
-        let came = Excerpt::of(self.came, 0);
-        write!(f, " {told}: the table gives {came} there")
-    }
-
     /// Where the line is: in a file the first byte of it that is no space.
     fn origin(&self) -> Origin<'a> {
         let Some(file) = self.file else {
@@ -360,8 +317,13 @@ impl<'a> Unfit<'a> {
 
 impl fmt::Display for Unfit<'_> {
     fn fmt<W: Write>(&self, f: &mut Formatter<W>) -> fmt::Result {
-        fmt::Display::fmt(&self.origin(), f)?;
-        f.write_str(if self.file.is_some() { ":" } else { "" })?;
-        self.tell_table(f)
+        let colon = if self.file.is_some() { ":" } else { "" };
+        let told = Excerpt::of(self.bytes.trim_ascii(), 0);
+        let came = Excerpt::of(self.came, 0);
+        write!(
+            f,
+            "{}{colon} {told}: the table gives {came} there",
+            self.origin()
+        )
     }
 }
