@@ -102,9 +102,9 @@ impl AttemptsByTxn {
     /// beginning, and what is said of a transaction that was run at the other node does not count those.
     pub fn of(machine: &Machine, doubtful: Doubtful) -> AttemptsByTxn {
         let mut attempts = AttemptsByTxn([Attempts::NONE; 64]);
-        attempts.note_steps(machine, doubtful);
+        attempts.note_all(machine, doubtful, false);
         if doubtful.has_new || !attempts.has_elsewhere() {
-            attempts.note_kills(machine, doubtful);
+            attempts.note_all(machine, doubtful, true);
         }
         attempts
     }
@@ -114,24 +114,16 @@ impl AttemptsByTxn {
         self.0.get(txn).copied().unwrap_or(Attempts::NONE)
     }
 
-    /// Notes what came of each step.
-    fn note_steps(&mut self, machine: &Machine, doubtful: Doubtful) {
+    /// Notes what came of each step, or of each kill.
+    fn note_all(&mut self, machine: &Machine, doubtful: Doubtful, are_kills: bool) {
         for entry in machine.entries() {
-            if let Choice::Run(_, txn) = entry.choice {
-                if doubtful.has(txn) {
-                    self.note(txn, entry.outcome);
-                }
-            }
-        }
-    }
-
-    /// Notes what came of each kill.
-    fn note_kills(&mut self, machine: &Machine, doubtful: Doubtful) {
-        for entry in machine.entries() {
-            if let Choice::Kill(txn) = entry.choice {
-                if doubtful.has(txn) {
-                    self.note(txn, entry.outcome);
-                }
+            let txn = match entry.choice {
+                Choice::Run(_, txn) if !are_kills => txn,
+                Choice::Kill(txn) if are_kills => txn,
+                _ => continue,
+            };
+            if doubtful.has(txn) {
+                self.note(txn, entry.outcome);
             }
         }
     }

@@ -1,6 +1,5 @@
 //! The order that explains the rows of a run, as standard error names it.
 
-use crate::no_effect::tell_number;
 use std::alloc::Global;
 use std::fmt::{self, Formatter, Write};
 use zy_isa::{Choice, MAX_CHOICES};
@@ -12,15 +11,9 @@ use zy_table::CommitRecord;
 /// nothing: the run is over, and its output is out.
 pub fn explain<R: Eprint + AllocGlobal>(rt: &R, machine: &Machine) {
     if let Ok(Some(order)) = explaining_order(rt.alloc(), machine) {
-        tell_order(rt, &order);
-        drop(order);
+        let explained = Explained(&order);
+        let _ = eprintln!(rt; "zy_bench: {explained}");
     }
-}
-
-/// Says on standard error that this order explains the rows.
-fn tell_order(rt: &impl Eprint, order: &[CommitRecord]) {
-    let explained = Explained(order);
-    let _ = eprintln!(rt; "zy_bench: {explained}");
 }
 
 /// Makes choices, as far as the scenario has their transactions and there is room for them.
@@ -48,13 +41,13 @@ pub fn went_from(alloc: Global, machine: &Machine, choices: &[Choice]) -> Result
 
 /// Which order explains the rows.
 #[derive(Clone, Copy)]
-struct Explained<'a>(pub &'a [CommitRecord]);
+struct Explained<'a>(&'a [CommitRecord]);
 
 impl fmt::Display for Explained<'_> {
     fn fmt<W: Write>(&self, f: &mut Formatter<W>) -> fmt::Result {
         let mut between = "the rows are those of ";
         for commit in self.0 {
-            tell_number(f, between, usize::from(commit.txn))?;
+            write!(f, "{between}{}", commit.txn)?;
             between = ", ";
         }
         f.write_str(" in this order: in each migration who committed at the source comes first")

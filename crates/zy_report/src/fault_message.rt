@@ -36,17 +36,12 @@ impl<'a> FaultMessage<'a> {
 
     /// Where the fault is.
     fn origin(&self) -> Origin<'a> {
-        let InputRead {
-            command,
-            file,
-            lines,
-            bytes,
-            failure,
-        } = self.reading;
+        let InputRead { command, bytes, .. } = self.reading;
+        let file = self.reading.file;
         match self.fault {
             BenchFault::Input(refusal) => {
                 let position = TextAdvice::of(command, bytes, refusal).position();
-                match (file, lines) {
+                match (file, self.reading.lines) {
                     (Some(file), Some(lines)) if position.line > lines => {
                         Origin::LineUnended(file, position.line.saturating_sub(lines))
                     }
@@ -54,7 +49,7 @@ impl<'a> FaultMessage<'a> {
                 }
             }
             BenchFault::Image(_) | BenchFault::TooLong => Origin::of(file),
-            BenchFault::Read => match failure {
+            BenchFault::Read => match self.reading.failure {
                 Some(failure) if !failure.is_file => Origin::Program,
                 _ => Origin::of(file),
             },

@@ -35,25 +35,17 @@ impl Cause {
             ("were", "are")
         };
         match self {
-            Cause::At(node) => tell_place(f, is, was, node),
+            Cause::At(node) => {
+                let (here, there) = match node {
+                    Node::A => ("A", "B"),
+                    Node::B => ("B", "A"),
+                };
+                write!(f, "{is} at {here}, and {was} run at {there}")
+            }
             Cause::NotBegun => write!(f, "{was} not begun"),
             Cause::BegunLater => write!(f, "{was} begun after them"),
         }
     }
-}
-
-/// Writes at which node transactions are, and that they were run at the other one.
-fn tell_place<W: Write>(
-    f: &mut Formatter<W>,
-    is: &'static str,
-    was: &'static str,
-    node: Node,
-) -> fmt::Result {
-    let (here, there) = match node {
-        Node::A => ("A", "B"),
-        Node::B => ("B", "A"),
-    };
-    write!(f, "{is} at {here}, and {was} run at {there}")
 }
 
 /// Transactions that did nothing, all for the same cause.
@@ -69,16 +61,6 @@ struct Stalled {
 }
 
 impl Stalled {
-    /// None yet.
-    fn new(cause: Cause) -> Stalled {
-        Stalled {
-            cause,
-            txns: [false; 64],
-            count: 0,
-            still: 0,
-        }
-    }
-
     /// Those that have the clearest cause, if one has any.
     fn of(machine: &Machine) -> Option<Stalled> {
         let doubtful = Doubtful::of(machine);
@@ -87,7 +69,12 @@ impl Stalled {
         }
         let attempts = AttemptsByTxn::of(machine, doubtful);
         let cause = clearest(machine, &attempts)?;
-        let mut stalled = Stalled::new(cause);
+        let mut stalled = Stalled {
+            cause,
+            txns: [false; 64],
+            count: 0,
+            still: 0,
+        };
         for t in 0..machine.txn_count() {
             let txn = machine.txn(t as u8);
             let of_txn = attempts.of_txn(t);
@@ -117,7 +104,7 @@ impl Stalled {
         };
         for (number, is_one) in self.txns.iter().enumerate() {
             if *is_one {
-                tell_number(f, between, number)?;
+                write!(f, "{between}{number}")?;
                 left = left.saturating_sub(1);
                 between = if left == 1 { " and " } else { ", " };
             }
@@ -132,15 +119,6 @@ impl fmt::Display for Stalled {
         f.write_str(" ")?;
         self.cause.tell(f, self.count == 1)
     }
-}
-
-/// Writes a number behind what is between it and the one before.
-pub fn tell_number<W: Write>(
-    f: &mut Formatter<W>,
-    between: &'static str,
-    number: usize,
-) -> fmt::Result {
-    write!(f, "{between}{number}")
 }
 
 /// The clearest reason why nothing came of the steps of a transaction.
@@ -221,15 +199,13 @@ impl NoEffect {
 
 impl fmt::Display for NoEffect {
     fn fmt<W: Write>(&self, f: &mut Formatter<W>) -> fmt::Result {
-        let still = match &self.reason {
-            Reason::Stalled(stalled) => stalled.still,
-            Reason::Idling(_) => self.count,
-        };
         let count = self.count;
-        write!(f, "{still} of {count} choices did nothing: ")?;
         match &self.reason {
-            Reason::Stalled(stalled) => fmt::Display::fmt(stalled, f),
-            Reason::Idling(idling) => fmt::Display::fmt(idling, f),
+            Reason::Stalled(stalled) => {
+                let still = stalled.still;
+                write!(f, "{still} of {count} choices did nothing: {stalled}")
+            }
+            Reason::Idling(idling) => write!(f, "{count} of {count} choices did nothing: {idling}"),
         }
     }
 }

@@ -36,16 +36,11 @@ impl<'a> RefusedLine<'a> {
 
 /// The word of this number in a line, from 0; where it is missing, the end of the line.
 pub fn misfit(statement: Statement<'_>, number: usize) -> MarkedWord<'_> {
-    let word = statement.word(number).unwrap_or(end_of(statement));
-    MarkedWord::of(statement.bytes, word)
-}
-
-/// An empty word at the end of a line.
-fn end_of(statement: Statement<'_>) -> SourceWord<'_> {
-    SourceWord {
+    let end = SourceWord {
         start: statement.bytes.trim_ascii_end().len(),
         bytes: &[],
-    }
+    };
+    MarkedWord::of(statement.bytes, statement.word(number).unwrap_or(end))
 }
 
 /// Where it is, the fault's name, what is expected, and the line with the word at fault marked; the flag that reads objects, where

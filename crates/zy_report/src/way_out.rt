@@ -10,16 +10,10 @@ use zy_machine::Machine;
 /// a scenario has no room for them, it says nothing.
 pub fn tell_way_out<R: Eprint + AllocGlobal>(rt: &R, machine: &Machine) {
     if let Ok(choices) = way_out(rt.alloc(), machine) {
-        tell_choices(rt, &choices);
-        drop(choices);
-    }
-}
-
-/// Says on standard error that these choices end the migration, if there are any.
-fn tell_choices(rt: &impl Eprint, choices: &[Choice]) {
-    if !choices.is_empty() {
-        let way = WayOut::of(choices);
-        let _ = eprintln!(rt; "zy_bench: {way}");
+        if !choices.is_empty() {
+            let way = WayOut::of(&choices);
+            let _ = eprintln!(rt; "zy_bench: {way}");
+        }
     }
 }
 
