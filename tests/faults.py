@@ -660,7 +660,7 @@ PROGRAM_FAULTS = [
     program(4, 'a goal names a transaction of none, and has those below 0', 'zy_bench/src/answering.rt', '0 => f.write_str("none")', '65 => f.write_str("none")',
             '^no transaction: ', 'searches'),
     program(7, '--always takes then behind a fact', 'zy_queries/src/reading.rt', 'ExpectedInGoal::OperatorAlone)', 'ExpectedInGoal::Operator)', '^stuck stuck: ', 'searches'),
-    program(1, '--from takes 1 and more', 'zy_cli/src/hint.rt', 'least: 0,', 'least: 1,', '^mistake: search --from ', 'run'),
+    program(1, '--from takes 1 and more', 'zy_cli/src/arguments.rt', 'least: 0,', 'least: 1,', '^mistake: search --from ', 'run'),
     program(5, 'a gap is of no log', 'zy_diagnostics/src/end_advice.rt', 'is(line.text(1), b"...")', 'is(line.text(2), b"...")', '^mistake: order: ', 'run'),
     program(6, 'an object is of no log', 'zy_diagnostics/src/end_advice.rt', 'starts_with(b"{")', 'starts_with(b"{{")', '^mistake: order --json: ', 'run'),
     program(3, 'a register that gets a number gets advice on one', 'zy_diagnostics/src/statement_form.rt', 'Shape::Number | Shape::Row => is_second',

@@ -1,43 +1,89 @@
 //! The arguments of the commands.
 
-use clap::builder::ValueParser;
 use clap::{Arg, ArgAction, value_parser};
 use std::alloc::{AllocError, Global};
+use zy_engine::debugging::{MAX_EVERY, MAX_RING};
+use zy_isa::MAX_CHOICES;
+use zy_search::MOST_THREADS;
 
-/// An argument of a command.
+/// An argument of a command: a flag of this name, or the file.
 #[derive(Clone, Copy)]
 pub enum Argument {
-    /// `--image`.
     Image,
     /// `--json`, and what it means.
     Json(&'static str),
-    /// `--every`.
     Every,
-    /// `--ring`.
     Ring,
-    /// `--for`.
     For,
-    /// `--always`.
     Always,
-    /// `--from`.
     From,
-    /// `--kill`.
     Kill,
-    /// `--without`.
     Without,
-    /// `--states`.
     States,
-    /// `--threads`.
     Threads,
-    /// `--canon`.
     Canon,
-    /// `--gap`.
     Gap,
-    /// `--furthest`.
     Furthest,
     /// The file that is read, and what is read without it.
     File(&'static str),
 }
+
+/// A flag that takes a number.
+#[derive(Clone, Copy)]
+pub struct Counted {
+    /// Its name, without the dashes.
+    pub name: &'static str,
+    /// The least number that it takes.
+    pub least: u32,
+    /// The greatest number that it takes.
+    pub most: u32,
+    help: &'static str,
+}
+
+const EVERY: Counted = Counted {
+    name: "every",
+    least: 1,
+    most: MAX_EVERY as u32,
+    help: "Keeps copies of the state at multiples of N: 1 to 4096, default 64",
+};
+
+const RING: Counted = Counted {
+    name: "ring",
+    least: 1,
+    most: MAX_RING as u32,
+    help: "Keeps at most N copies: 1 to 64, default 16",
+};
+
+const FROM: Counted = Counted {
+    name: "from",
+    least: 0,
+    most: MAX_CHOICES as u32,
+    help: "Takes the first N choices as steps already taken: 0 to 4096, default all",
+};
+
+const STATES: Counted = Counted {
+    name: "states",
+    least: 1,
+    most: 4_294_967_295,
+    help: "Gives up after N states: 1 to 4294967295, default 1000000",
+};
+
+const THREADS: Counted = Counted {
+    name: "threads",
+    least: 1,
+    most: MOST_THREADS as u32,
+    help: "Searches by N threads: 1 to 64, default 1",
+};
+
+const GAP: Counted = Counted {
+    name: "gap",
+    least: 1,
+    most: 64,
+    help: "Lets a line ... stand for at most N missing steps: 1 to 64, default 4",
+};
+
+/// The flags that take a number.
+pub const COUNTED: [Counted; 6] = [EVERY, RING, FROM, STATES, THREADS, GAP];
 
 /// The kinds of choices, as `--without` names them.
 const KINDS: &'static [&'static str] = &["start", "begin", "kill", "run", "take", "finish", "push"];
@@ -46,8 +92,8 @@ impl Argument {
     /// The argument, as `clap` reads it.
     pub fn build<'a>(self, alloc: Global) -> Result<Arg<'a>, AllocError> {
         match self {
-            Argument::Always => always(alloc),
-            argument => Ok(argument.alone(alloc)),
+            Argument::Always => self.alone(alloc).conflicts_with("for"),
+            _ => Ok(self.alone(alloc)),
         }
     }
 
@@ -60,8 +106,8 @@ impl Argument {
                 "The input is an image, as asm writes it, and not a text",
             ),
             Argument::Json(help) => flag(alloc, "json", help),
-            Argument::Every => every(alloc),
-            Argument::Ring => ring(alloc),
+            Argument::Every => numbered(alloc, EVERY),
+            Argument::Ring => numbered(alloc, RING),
             Argument::For => valued(
                 alloc,
                 "for",
@@ -74,21 +120,25 @@ impl Argument {
                 "GOAL",
                 "A goal that every state is to meet: looks for states that do not",
             ),
-            Argument::From => from(alloc),
+            Argument::From => numbered(alloc, FROM),
             Argument::Kill => flag(
                 alloc,
                 "kill",
                 "Considers that the client kills transactions too",
             ),
-            Argument::Without => without(alloc),
-            Argument::States => states(alloc),
-            Argument::Threads => threads(alloc),
+            Argument::Without => {
+                valued(alloc, "without", "KIND", "Leaves out choices of this kind")
+                    .action(ArgAction::Append)
+                    .value_parser(KINDS)
+            }
+            Argument::States => numbered(alloc, STATES),
+            Argument::Threads => numbered(alloc, THREADS),
             Argument::Canon => flag(
                 alloc,
                 "canon",
                 "Writes canonical text, without names and comments",
             ),
-            Argument::Gap => gap(alloc),
+            Argument::Gap => numbered(alloc, GAP),
             Argument::Furthest => valued(
                 alloc,
                 "furthest",
@@ -121,74 +171,8 @@ fn valued<'a>(
         .help(help)
 }
 
-/// A flag that has a number.
-fn number<'a>(
-    alloc: Global,
-    name: &'static str,
-    parser: ValueParser<'a>,
-    help: &'static str,
-) -> Arg<'a> {
-    valued(alloc, name, "N", help).value_parser(parser)
-}
-
-/// `--always`, which conflicts with `--for`.
-fn always<'a>(alloc: Global) -> Result<Arg<'a>, AllocError> {
-    Argument::Always.alone(alloc).conflicts_with("for")
-}
-
-/// `--every`.
-fn every<'a>(alloc: Global) -> Arg<'a> {
-    let parser = value_parser!(u16).range(1..=4096);
-    let help = "Keeps copies of the state at multiples of N: 1 to 4096, default 64";
-    number(alloc, "every", parser, help)
-}
-
-/// `--ring`.
-fn ring<'a>(alloc: Global) -> Arg<'a> {
-    let parser = value_parser!(u8).range(1..=64);
-    number(
-        alloc,
-        "ring",
-        parser,
-        "Keeps at most N copies: 1 to 64, default 16",
-    )
-}
-
-/// `--from`.
-fn from<'a>(alloc: Global) -> Arg<'a> {
-    let parser = value_parser!(u16).range(0..=4096);
-    let help = "Takes the first N choices as steps already taken: 0 to 4096, default all";
-    number(alloc, "from", parser, help)
-}
-
-/// `--without`.
-fn without<'a>(alloc: Global) -> Arg<'a> {
-    valued(alloc, "without", "KIND", "Leaves out choices of this kind")
-        .action(ArgAction::Append)
-        .value_parser(KINDS)
-}
-
-/// `--states`.
-fn states<'a>(alloc: Global) -> Arg<'a> {
-    let parser = value_parser!(u32).range(1..=4294967295);
-    let help = "Gives up after N states: 1 to 4294967295, default 1000000";
-    number(alloc, "states", parser, help)
-}
-
-/// `--threads`.
-fn threads<'a>(alloc: Global) -> Arg<'a> {
-    let parser = value_parser!(u32).range(1..=64);
-    number(
-        alloc,
-        "threads",
-        parser,
-        "Searches by N threads: 1 to 64, default 1",
-    )
-}
-
-/// `--gap`.
-fn gap<'a>(alloc: Global) -> Arg<'a> {
-    let parser = value_parser!(u16).range(1..=64);
-    let help = "Lets a line ... stand for at most N missing steps: 1 to 64, default 4";
-    number(alloc, "gap", parser, help)
+/// A flag that takes a number.
+fn numbered<'a>(alloc: Global, counted: Counted) -> Arg<'a> {
+    let range = i64::from(counted.least)..=i64::from(counted.most);
+    valued(alloc, counted.name, "N", counted.help).value_parser(value_parser!(u32).range(range))
 }

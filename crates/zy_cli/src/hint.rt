@@ -1,57 +1,11 @@
 //! What to write in place of a command line that is not understood.
 
+use crate::arguments::{COUNTED, Counted};
 use crate::table::command_of;
 use clap::error::ErrorKind;
-use std::fmt;
+use std::fmt::{self, Formatter, Write};
 use zy_diagnostics::CommandName;
-use zy_engine::debugging::{MAX_EVERY, MAX_RING};
-use zy_isa::MAX_CHOICES;
-use zy_search::MOST_THREADS;
 use zy_source_words::Bytes;
-
-/// A flag that takes a number.
-#[derive(Clone, Copy)]
-struct Counted {
-    flag: &'static str,
-    /// The least number that it takes.
-    least: u64,
-    /// The greatest number that it takes.
-    most: u64,
-}
-
-/// The flags that take a number.
-const COUNTED: [Counted; 6] = [
-    Counted {
-        flag: "--from",
-        least: 0,
-        most: MAX_CHOICES as u64,
-    },
-    Counted {
-        flag: "--gap",
-        least: 1,
-        most: 64,
-    },
-    Counted {
-        flag: "--states",
-        least: 1,
-        most: 4_294_967_295,
-    },
-    Counted {
-        flag: "--threads",
-        least: 1,
-        most: MOST_THREADS as u64,
-    },
-    Counted {
-        flag: "--every",
-        least: 1,
-        most: MAX_EVERY as u64,
-    },
-    Counted {
-        flag: "--ring",
-        least: 1,
-        most: MAX_RING as u64,
-    },
-];
 
 /// What was meant by a command line.
 #[derive(Clone, Copy)]
@@ -80,18 +34,13 @@ impl<'a> Hint<'a> {
         match (kind, words) {
             (ErrorKind::InvalidSubcommand, [file]) if is_path(file) => Some(Hint::NoCommand(file)),
             (ErrorKind::UnknownArgument, [command, _, _, ..]) if !words.iter().any(is_flag) => {
-                Some(Hint::of_files(command))
+                Some(match command_of(command) {
+                    Some(CommandName::Order) => Hint::OneInput,
+                    _ => Hint::OneFile(command),
+                })
             }
             (ErrorKind::ValueValidation, _) => NoNumber::of(words).map(Hint::NoNumber),
             _ => None,
-        }
-    }
-
-    /// What was meant by several files behind this command.
-    fn of_files(command: &'a str) -> Hint<'a> {
-        match command_of(command) {
-            Some(CommandName::Order) => Hint::OneInput,
-            _ => Hint::OneFile(command),
         }
     }
 }
@@ -126,17 +75,16 @@ impl<'a> NoNumber<'a> {
     /// The number that was meant, where the flag takes it and it is not 0.
     fn meant(self) -> Option<u64> {
         let number = spelled(self.value.as_bytes())?;
-        if (1..=self.counted.most).contains(&number) {
-            Some(number)
-        } else {
-            None
-        }
+        (1..=u64::from(self.counted.most))
+            .contains(&number)
+            .then_some(number)
     }
 }
 
 /// The flag of this name, if it takes a number.
 fn counted_of(flag: &str) -> Option<Counted> {
-    COUNTED.into_iter().find(|counted| counted.flag == flag)
+    let name = flag.strip_prefix("--")?;
+    COUNTED.into_iter().find(|counted| counted.name == name)
 }
 
 /// Whether a word is digits alone.
@@ -175,7 +123,7 @@ fn raised(number: u64, exponent: &[u8]) -> Option<u64> {
 }
 
 impl fmt::Display for Hint<'_> {
-    fn fmt<W: fmt::Write>(&self, f: &mut fmt::Formatter<W>) -> fmt::Result {
+    fn fmt<W: Write>(&self, f: &mut Formatter<W>) -> fmt::Result {
         match self {
             Hint::NoCommand(file) => write!(
                 f,
@@ -193,11 +141,16 @@ impl fmt::Display for Hint<'_> {
 }
 
 impl fmt::Display for NoNumber<'_> {
-    fn fmt<W: fmt::Write>(&self, f: &mut fmt::Formatter<W>) -> fmt::Result {
-        let Counted { flag, least, most } = self.counted;
+    fn fmt<W: Write>(&self, f: &mut Formatter<W>) -> fmt::Result {
+        let Counted {
+            name,
+            least,
+            most,
+            ..
+        } = self.counted;
         match self.meant() {
-            Some(number) => write!(f, "{flag} takes a whole number: {number}"),
-            None => write!(f, "{flag} takes a whole number from {least} to {most}"),
+            Some(number) => write!(f, "--{name} takes a whole number: {number}"),
+            None => write!(f, "--{name} takes a whole number from {least} to {most}"),
         }
     }
 }
