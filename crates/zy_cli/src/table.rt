@@ -15,42 +15,16 @@ pub struct Described {
 }
 
 /// The commands, in the order of the help.
-pub const COMMANDS: [CommandName; 11] = [
-    CommandName::Run,
-    CommandName::Trace,
-    CommandName::Asm,
-    CommandName::Dis,
-    CommandName::Check,
-    CommandName::Threads,
-    CommandName::Debug,
-    CommandName::Search,
-    CommandName::Find,
-    CommandName::End,
-    CommandName::Order,
+pub const COMMANDS: [Described; 11] = [
+    RUN, TRACE, ASM, DIS, CHECK, THREADS, DEBUG, SEARCH, FIND, END, ORDER,
 ];
-
-impl Described {
-    /// What the help shows of a command.
-    pub fn of(name: CommandName) -> Described {
-        match name {
-            CommandName::Run => RUN,
-            CommandName::Trace => TRACE,
-            CommandName::Asm => ASM,
-            CommandName::Dis => DIS,
-            CommandName::Check => CHECK,
-            CommandName::Threads => THREADS,
-            CommandName::Debug => DEBUG,
-            CommandName::Search => SEARCH,
-            CommandName::Find => FIND,
-            CommandName::End => END,
-            CommandName::Order => ORDER,
-        }
-    }
-}
 
 /// The command of a word.
 pub fn command_of(word: &str) -> Option<CommandName> {
-    COMMANDS.into_iter().find(|name| name.word() == word)
+    let described = COMMANDS
+        .into_iter()
+        .find(|described| described.name.word() == word)?;
+    Some(described.name)
 }
 
 /// The help of the file that most commands read.
@@ -73,7 +47,6 @@ macro_rules! below {
     };
 }
 
-/// `run`.
 const RUN: Described = Described {
     name: CommandName::Run,
     about: "Runs a scenario, and prints its listing",
@@ -89,7 +62,6 @@ const RUN: Described = Described {
     ],
 };
 
-/// `trace`.
 const TRACE: Described = Described {
     name: CommandName::Trace,
     about: "Runs a scenario, and prints what each step changes",
@@ -105,7 +77,6 @@ const TRACE: Described = Described {
     ],
 };
 
-/// `asm`.
 const ASM: Described = Described {
     name: CommandName::Asm,
     about: "Reads a scenario text, and writes its image",
@@ -117,7 +88,6 @@ const ASM: Described = Described {
     arguments: &[Argument::File(FILE_HELP)],
 };
 
-/// `dis`.
 const DIS: Described = Described {
     name: CommandName::Dis,
     about: "Reads the image of a scenario, and prints its canonical text",
@@ -129,7 +99,6 @@ const DIS: Described = Described {
     arguments: &[Argument::File(FILE_HELP)],
 };
 
-/// `check`.
 const CHECK: Described = Described {
     name: CommandName::Check,
     about: "Reads a listing, and says whether it is right",
@@ -148,7 +117,6 @@ const CHECK: Described = Described {
     arguments: &[Argument::File(FILE_HELP)],
 };
 
-/// `threads`.
 const THREADS: Described = Described {
     name: CommandName::Threads,
     about: "Runs a scenario by three threads, and prints its listing",
@@ -160,7 +128,6 @@ const THREADS: Described = Described {
     arguments: &[Argument::Image, Argument::File(FILE_HELP)],
 };
 
-/// `debug`.
 const DEBUG: Described = Described {
     name: CommandName::Debug,
     about: "Answers commands on the run of a scenario, one a line",
@@ -187,7 +154,6 @@ const DEBUG: Described = Described {
     ],
 };
 
-/// `search`.
 const SEARCH: Described = Described {
     name: CommandName::Search,
     about: "Looks for a schedule of a scenario after which a state shows something",
@@ -230,7 +196,6 @@ const SEARCH: Described = Described {
     ],
 };
 
-/// `find`.
 const FIND: Described = Described {
     name: CommandName::Find,
     about: "Finds the states of a scenario's run that show something",
@@ -254,7 +219,6 @@ const FIND: Described = Described {
     ],
 };
 
-/// `end`.
 const END: Described = Described {
     name: CommandName::End,
     about: "Ends the migration of a scenario: writes it with choices behind its own that do so",
@@ -276,7 +240,6 @@ const END: Described = Described {
     arguments: &[Argument::Image, Argument::Canon, Argument::File(FILE_HELP)],
 };
 
-/// `order`.
 const ORDER: Described = Described {
     name: CommandName::Order,
     about: "Looks for an order of three logs that the step table allows",
