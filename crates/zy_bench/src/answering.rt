@@ -1,6 +1,5 @@
 //! The commands `search` and `find`: a goal is read, and answered.
-ghost use Rattle.std.specs.Prelude.{◌≡◌, ◌<◌};
-ghost use Rattle.zy_engine.specs.Searching.{history_of};
+ghost use Rattle.std.specs.Prelude.{◌<◌};
 
 use crate::output::{Output, pass};
 use std::alloc::{AllocError, Global};
@@ -104,53 +103,30 @@ fn answer_read<R: Eprint + AllocGlobal + Clock + Threads + Sync, W: Write>(
     requires { output.old.sink.1 < u64.MAX }
 {
     let input = AcceptedInput::of(rt.alloc(), request.format, bytes)?;
-    let status = answer_accepted(rt, kind, request, &input, output);
-    drop(input);
-    status
-}
-
-/// Answers what is asked of a scenario, and returns the exit status.
-fn answer_accepted<R: Eprint + AllocGlobal + Clock + Threads + Sync, W: Write>(
-    rt: &R,
-    kind: AnswerKind,
-    request: SearchRequest<'_>,
-    input: &AcceptedInput<'_>,
-    output: &mut Output<W>,
-) -> Result<u8, BenchFault>
-    requires { output.old.sink.1 < u64.MAX }
-{
-    match sought_in(rt.alloc(), request, input)? {
-        Ok(sought) => {
-            warn(rt, &input.scenario, named_by(&sought.goal, sought.then));
-            match kind {
-                AnswerKind::Schedule { is_terminal } => {
-                    search(rt, request, sought, input, output, is_terminal)
-                }
-                AnswerKind::Positions => find(rt, sought, input, output),
-            }
+    let sought = match sought_in(rt.alloc(), request, &input)? {
+        Ok(sought) => sought,
+        Err(fault) => return no_goal(rt, request, fault),
+    };
+    warn(rt, &input.scenario, named_by(&sought.goal, sought.then));
+    match kind {
+        AnswerKind::Schedule { is_terminal } => {
+            search(rt, request, sought, &input, output, is_terminal)
         }
-        Err(fault) => no_goal(rt, request, fault),
+        AnswerKind::Positions => find(rt, sought, &input, output),
     }
 }
 
-/// What is looked for in a scenario, or why its goal is not read.
+/// What is looked for in a scenario, or why its goal is not read. The transactions of an image have no names.
 fn sought_in(
     alloc: Global,
     request: SearchRequest<'_>,
     input: &AcceptedInput<'_>,
 ) -> Result<Result<Sought, GoalFault>, AllocError> {
-    let names = names_in(alloc, input)?;
-    let sought = sought_of(alloc, request, Names::Known(&names));
-    drop(names);
-    Ok(sought)
-}
-
-/// The names of a scenario's transactions; an image has none.
-fn names_in<'a>(alloc: Global, input: &AcceptedInput<'a>) -> Result<Vec<&'a [u8]>, AllocError> {
-    match input.format {
-        Format::Text => names_of(alloc, input.bytes),
-        Format::Image => Ok(Vec::new(alloc)),
-    }
+    let names = match input.format {
+        Format::Text => names_of(alloc, input.bytes)?,
+        Format::Image => Vec::new(alloc),
+    };
+    Ok(sought_of(alloc, request, Names::Known(&names)))
 }
 
 /// How many choices a scenario has, where there are fewer than those that a search is to take as steps already taken.
@@ -162,7 +138,8 @@ fn lacking(options: SearchOptions, scenario: &Scenario) -> Option<Count> {
     None
 }
 
-/// Searches the schedules of a scenario, if it has the steps that are to be taken, and returns the exit status.
+/// Searches the schedules of a scenario, if it has the steps that are to be taken, and returns the exit status. It says how far it is
+/// where standard error is a terminal.
 fn search<R: Eprint + AllocGlobal + Clock + Threads + Sync, W: Write>(
     rt: &R,
     request: SearchRequest<'_>,
@@ -173,62 +150,23 @@ fn search<R: Eprint + AllocGlobal + Clock + Threads + Sync, W: Write>(
 ) -> Result<u8, BenchFault>
     requires { output.old.sink.1 < u64.MAX }
 {
-    if let Some(count) = lacking(request.options, &input.scenario) {
-        drop(sought);
-        return Ok(tell_lacking(rt, count));
+    let options = request.options;
+    if let Some(count) = lacking(options, &input.scenario) {
+        let _ = eprintln!(rt; "zy_bench: --from: the scenario has {count}");
+        return Ok(COMMAND_LINE);
     }
-    match run_taken(rt.alloc(), input, request.options.from) {
-        Ok(machine) => {
-            let status = search_from(rt, request, sought, input, &machine, output, is_terminal);
-            machine.discard();
-            status
-        }
-        Err(fault) => {
-            drop(sought);
-            Err(BenchFault::from(fault))
-        }
-    }
-}
-
-/// Reports on standard error that a scenario has no more choices than these, and returns the exit status.
-fn tell_lacking(rt: &impl Eprint, count: Count) -> u8 {
-    let _ = eprintln!(rt; "zy_bench: --from: the scenario has {count}");
-    COMMAND_LINE
-}
-
-/// Searches the schedules behind the steps that a machine has taken, and returns the exit status. It says how far it is where
-/// standard error is a terminal.
-fn search_from<R: Eprint + AllocGlobal + Clock + Threads + Sync, W: Write>(
-    rt: &R,
-    request: SearchRequest<'_>,
-    sought: Sought,
-    input: &AcceptedInput<'_>,
-    machine: &Machine,
-    output: &mut Output<W>,
-    is_terminal: bool,
-) -> Result<u8, BenchFault>
-    requires taken { machine.now ≡ history_of request.options.from input.now.scenario }
-    requires calls { output.old.sink.1 < u64.MAX }
-{
+    let machine = run_taken(rt.alloc(), input, options.from)?;
     let mut progress = Progress::new(rt, is_terminal);
     let is_of_waits = takes_steps(&sought.goal);
-    let question = Question {
-        options: request.options,
-        sought,
-    };
-    let searched = search_input(
-        rt,
-        rt.alloc(),
-        input,
-        question,
-        machine,
-        output,
-        &mut progress,
-    );
+    let question = Question { options, sought };
+    let watch = &mut progress;
+    let searched = search_input(rt, rt.alloc(), input, question, &machine, output, watch);
     progress.clear();
-    let report = searched?;
-    let told = tell_answer(rt, request, is_of_waits, machine, &report, output);
-    drop(report);
+    let told = match searched {
+        Ok(report) => tell_answer(rt, request, is_of_waits, &machine, &report, output),
+        Err(fault) => Err(BenchFault::from(fault)),
+    };
+    machine.discard();
     told
 }
 
@@ -245,7 +183,8 @@ fn tell_answer<R: Eprint + AllocGlobal, W: Write>(
     requires { output.old.sink.1 < u64.MAX }
 {
     pass(output)?;
-    sum_up(rt, report, request);
+    let summary = Summary::of(report, request.kinds, request.is_always);
+    let _ = eprintln!(rt; "zy_bench: {summary}");
     Ok(match &report.answer {
         SearchAnswer::Found(path) => {
             comment_found(rt, is_of_waits, machine, path);
@@ -283,9 +222,7 @@ fn find<R: AllocGlobal, W: Write>(
 ) -> Result<u8, BenchFault>
     requires { output.old.sink.1 < u64.MAX }
 {
-    let found = find_input(rt.alloc(), input, &sought, output);
-    drop(sought);
-    let count = found?;
+    let count = find_input(rt.alloc(), input, &sought, output)?;
     pass(output)?;
     Ok(if count == 0 { NOWHERE } else { DONE })
 }
@@ -316,10 +253,4 @@ impl fmt::Display for Has {
             count => write!(f, "only those below {count}"),
         }
     }
-}
-
-/// Reports on standard error what came of a search.
-fn sum_up(rt: &impl Eprint, report: &SearchReport, request: SearchRequest<'_>) {
-    let summary = Summary::of(report, request.kinds, request.is_always);
-    let _ = eprintln!(rt; "zy_bench: {summary}");
 }

@@ -29,9 +29,7 @@ pub fn check<R: Eprint + AllocGlobal, G: Read, W: Write>(
 {
     let mut source = CountingReader::new(given);
     let checked = check_bytes(rt.alloc(), &mut source, output, input)?;
-    let status = tell_checked(rt, file, input.as_slice(), &checked, output);
-    drop(checked);
-    status
+    tell_checked(rt, file, input.as_slice(), &checked, output)
 }
 
 /// Finishes a check: reports what it found, and returns the exit status.

@@ -1,11 +1,9 @@
 //! The furthest order of logs, which is kept in a file.
-ghost use Rattle.std.specs.Prelude.{◌≡◌, ◌<◌, None};
+ghost use Rattle.std.specs.Prelude.{◌≡◌, None};
 ghost use Rattle.zy_engine.specs.Searching.{history_of};
 
-use crate::output::{Output, output_to, pass};
-use std::alloc::Global;
+use crate::output::{output_to, pass};
 use std::fs;
-use std::io::Write;
 use std::rt::Files;
 use zy_engine::{BenchFault, Wording};
 use zy_isa::Choice;
@@ -65,42 +63,11 @@ impl Keeper<'_> {
     ) -> Result<(), BenchFault>
         requires { machine.now ≡ history_of None machine.now.scenario }
     {
-        match fs::create(rt, self.path) {
-            Ok(file) => self.write_to(rt.alloc(), file, text, machine, order),
-            Err(_) => Err(BenchFault::Write),
-        }
-    }
-
-    /// Writes it to a file that is open.
-    fn write_to<F: Write + Drop>(
-        self,
-        alloc: Global,
-        file: F,
-        text: &[u8],
-        machine: &Machine,
-        order: &[Choice],
-    ) -> Result<(), BenchFault>
-        requires { machine.now ≡ history_of None machine.now.scenario }
-    {
-        let mut output = output_to(alloc, file)?;
-        let written = self.write_through(alloc, text, machine, order, &mut output);
-        drop(output);
-        written
-    }
-
-    /// Writes it, and passes on what is kept back.
-    fn write_through<W: Write>(
-        self,
-        alloc: Global,
-        text: &[u8],
-        machine: &Machine,
-        order: &[Choice],
-        output: &mut Output<W>,
-    ) -> Result<(), BenchFault>
-        requires ran { machine.now ≡ history_of None machine.now.scenario }
-        requires calls { output.old.sink.1 < u64.MAX }
-    {
-        write_behind(alloc, self.wording, text, machine, order, output)?;
-        pass(output)
+        let Ok(file) = fs::create(rt, self.path) else {
+            return Err(BenchFault::Write);
+        };
+        let mut output = output_to(rt.alloc(), file)?;
+        write_behind(rt.alloc(), self.wording, text, machine, order, &mut output)?;
+        pass(&mut output)
     }
 }

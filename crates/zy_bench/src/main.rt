@@ -22,7 +22,7 @@ use ending::end;
 use given::Given;
 use ordering::{OrderCaller, order};
 use output::{Output, output_to, pass_rest};
-use running::convert;
+use running::{convert, run};
 use std::alloc::Global;
 use std::io::{IsTerminal, Read, Write};
 use std::process::ExitCode;
@@ -63,17 +63,11 @@ fn say(rt: &(impl Print + Eprint), said: &clap::Error) -> u8 {
     }
     match printed {
         Ok(()) => DONE,
-        Err(error) if error.kind() == io::ErrorKind::BrokenPipe => BenchFault::Write.status(),
-        Err(error) => tell(rt, unprinted(&error)),
-    }
-}
-
-/// Why a text could not be printed.
-fn unprinted(error: &io::Error) -> BenchFault {
-    if error.kind() == io::ErrorKind::OutOfMemory {
-        BenchFault::Memory
-    } else {
-        BenchFault::Write
+        Err(error) => match error.kind() {
+            io::ErrorKind::BrokenPipe => BenchFault::Write.status(),
+            io::ErrorKind::OutOfMemory => tell(rt, BenchFault::Memory),
+            _ => tell(rt, BenchFault::Write),
+        },
     }
 }
 
@@ -95,13 +89,6 @@ fn open<R: Input + Files>(
     }
 }
 
-/// Reports on standard error why a file could not be opened, and returns the exit status.
-fn unopened(rt: &impl Eprint, file: Option<&str>, failure: Failure) -> u8 {
-    let origin = Origin::of(file);
-    let _ = eprintln!(rt; "{origin}: Read: {failure}");
-    BenchFault::Read.status()
-}
-
 /// Carries a request out, and returns the exit status.
 fn carry_out<R: Print + Eprint + Input + Files + AllocGlobal + Clock + Threads + Wait + Sync>(
     rt: &R,
@@ -113,7 +100,6 @@ fn carry_out<R: Print + Eprint + Input + Files + AllocGlobal + Clock + Threads +
     };
     let status = write_answer(rt, request, is_terminal, &mut output);
     pass_rest(&mut output);
-    drop(output);
     status
 }
 
@@ -127,16 +113,16 @@ fn write_answer<R: Eprint + Input + Files + AllocGlobal + Clock + Threads + Wait
     requires { output.old.sink.1 < u64.MAX }
 {
     match open(rt, request) {
-        Ok(mut given) => {
-            let status = answer_given(rt, request, is_terminal, &mut given, output);
-            drop(given);
-            status
+        Ok(mut given) => answer_given(rt, request, is_terminal, &mut given, output),
+        Err(failure) => {
+            let origin = Origin::of(request.file);
+            let _ = eprintln!(rt; "{origin}: Read: {failure}");
+            BenchFault::Read.status()
         }
-        Err(failure) => unopened(rt, request.file, failure),
     }
 }
 
-/// Carries a request out on what it is given to read, and returns the exit status.
+/// Carries a request out on what it is given to read, reports a fault and what to do about it, and returns the exit status.
 fn answer_given<
     R: Eprint + Files + AllocGlobal + Clock + Threads + Wait + Sync,
     F: Read + Drop,
@@ -152,13 +138,15 @@ fn answer_given<
     requires { output.old.sink.1 < u64.MAX }
 {
     let mut input = Vec::new(rt.alloc());
-    let status = match perform(rt, request, is_terminal, given, &mut input, output) {
+    match perform(rt, request, is_terminal, given, &mut input, output) {
         Ok(status) => status,
         Err(BenchFault::Write) if output.sink().is_unread() => BenchFault::Write.status(),
-        Err(fault) => advise(rt, reading_of(request, given, input.as_slice()), fault),
-    };
-    drop(input);
-    status
+        Err(fault) => {
+            let message = FaultMessage::of(reading_of(request, given, input.as_slice()), fault);
+            let _ = eprintln!(rt; "{message}");
+            fault.status()
+        }
+    }
 }
 
 /// Performs the task of a request, and returns the exit status.
@@ -179,7 +167,8 @@ fn perform<
 {
     let file = request.file;
     match request.task {
-        Task::Convert(conversion) => convert(rt, conversion, given, input, output),
+        Task::Run(shown, format) => run(rt, shown, format, given, input, output),
+        Task::Convert(from, to) => convert(rt, from, to, given, input, output),
         Task::Check => check(rt, file, given, input, output),
         Task::Debug(checkpoints) => debug(rt, checkpoints, file, given, input, output),
         Task::Search(search) => {
@@ -214,13 +203,6 @@ fn reading_of<'a, F: Drop, S>(
     }
 }
 
-/// Reports a fault of an input on standard error, and what to do about it, and returns the exit status.
-fn advise(rt: &impl Eprint, reading: InputRead<'_>, fault: BenchFault) -> u8 {
-    let message = FaultMessage::of(reading, fault);
-    let _ = eprintln!(rt; "{message}");
-    fault.status()
-}
-
 /// What these words say.
 fn parse<'a>(alloc: Global, words: &'a [String]) -> Result<ArgMatches<'a>, clap::Error> {
     command(alloc)?.try_get_matches_from(words)
@@ -233,28 +215,11 @@ fn status<'a, R: Print + Eprint + Input + Files + AllocGlobal + Clock + Threads 
     is_terminal: bool,
 ) -> u8 {
     match parse(rt.alloc(), words) {
-        Ok(matches) => {
-            let status = obey(rt, &matches, is_terminal);
-            drop(matches);
-            status
-        }
-        Err(said) => {
-            let status = refuse(rt, &said, words);
-            drop(said);
-            status
-        }
-    }
-}
-
-/// Carries out the request, and returns the exit status.
-fn obey<R: Print + Eprint + Input + Files + AllocGlobal + Clock + Threads + Wait + Sync>(
-    rt: &R,
-    matches: &ArgMatches<'_>,
-    is_terminal: bool,
-) -> u8 {
-    match request_of(matches) {
-        Some(request) => carry_out(rt, request, is_terminal),
-        None => COMMAND_LINE,
+        Ok(matches) => match request_of(&matches) {
+            Some(request) => carry_out(rt, request, is_terminal),
+            None => COMMAND_LINE,
+        },
+        Err(said) => refuse(rt, &said, words),
     }
 }
 
@@ -276,23 +241,12 @@ fn run_words<R: Print + Eprint + Input + Env + Files + AllocGlobal + Clock + Thr
     is_terminal: bool,
 ) -> u8 {
     match std::env::args(rt) {
-        Ok(args) => match args.collect(rt.alloc()) {
-            Ok(words) => run_of(rt, words, is_terminal),
+        Ok(args) => match args.collect::<Vec<String>>(rt.alloc()) {
+            Ok(words) => status(rt, words.as_slice(), is_terminal),
             Err(_) => tell(rt, BenchFault::Memory),
         },
         Err(error) => no_words(rt, &error),
     }
-}
-
-/// The exit status of a run with words that end with it.
-fn run_of<R: Print + Eprint + Input + Files + AllocGlobal + Clock + Threads + Wait + Sync>(
-    rt: &R,
-    words: Vec<String>,
-    is_terminal: bool,
-) -> u8 {
-    let status = status(rt, words.as_slice(), is_terminal);
-    drop(words);
-    status
 }
 
 fn main(rt: HostRuntime) -> ExitCode {

@@ -14,7 +14,7 @@ use zy_engine::BenchFault;
 use zy_engine::format::split_scenario;
 use zy_io::CountingReader;
 use zy_logs::LogLineFault;
-use zy_order::{OrderAnswer, OrderReport};
+use zy_order::OrderAnswer;
 use zy_order_engine::ordering::order_bytes;
 use zy_order_engine::{LogFormat, OrderFault, OrderedLogs};
 use zy_report::furthest::{Furthest, Steps};
@@ -57,11 +57,7 @@ pub fn order<R: Eprint + Files + AllocGlobal + Clock, G: Read, W: Write>(
     );
     progress.clear();
     match ordered {
-        Ok(ordered) => {
-            let told = tell_ordered(rt, request, file, input.as_slice(), &ordered, output);
-            drop(ordered);
-            told
-        }
+        Ok(ordered) => tell_ordered(rt, request, file, input.as_slice(), &ordered, output),
         Err(fault) => refuse(rt, request.options.logs, file, input.as_slice(), fault),
     }
 }
@@ -117,7 +113,6 @@ fn tell_refused<R: Eprint + AllocGlobal>(
         LogFormat::Json => {
             let told = ToldLine::of(rt.alloc(), input, refusal.line)?;
             tell(rt, told.refused(file, refusal));
-            drop(told);
         }
     }
     Ok(())
@@ -140,6 +135,9 @@ fn kept<R: Eprint + Files + AllocGlobal>(
     keeper.keep(rt, text, ordered).err()
 }
 
+/// What stands before how far an order comes that may not be the furthest.
+const TRIED_TAKES: &'static str = "no order was found, and the furthest that was tried takes";
+
 /// Reports on standard error what came of a search for an order, and returns the exit status.
 fn sum_up<R: Eprint + AllocGlobal>(
     rt: &R,
@@ -149,49 +147,20 @@ fn sum_up<R: Eprint + AllocGlobal>(
     ordered: &OrderedLogs,
 ) -> Result<u8, BenchFault> {
     let report = &ordered.report;
-    let (order, words, status) = match &report.answer {
-        OrderAnswer::Found(order) => return Ok(found(rt, report, order.len())),
-        OrderAnswer::Nowhere(order) => (order, NO_ORDER, NOWHERE),
-        OrderAnswer::Spent(order) => (order, GAVE_UP, SPENT),
+    let states = Count::of(report.states, "state");
+    let (order, status, end, takes) = match &report.answer {
+        OrderAnswer::Found(order) => {
+            let steps = Steps::of(report.taken, order.len());
+            let _ = eprintln!(rt; "zy_bench: found after {states}: an order of {steps}");
+            return Ok(DONE);
+        }
+        OrderAnswer::Nowhere(order) => (order, NOWHERE, "there is no order,", "the furthest takes"),
+        OrderAnswer::Spent(order) => (order, SPENT, "gave up", TRIED_TAKES),
     };
     let furthest = Furthest::of(rt.alloc(), request.options.logs, ordered, order)?;
-    tell_furthest(rt, words, report, &furthest);
+    let reach = furthest.reach();
+    let _ = eprintln!(rt; "zy_bench: {end} after {states}: {takes} {reach}");
     furthest.tell(rt, file, input);
     furthest.discard();
     Ok(status)
-}
-
-/// Reports that an order was found, which makes this number of choices, and returns the exit status.
-fn found(rt: &impl Eprint, report: &OrderReport, choices: usize) -> u8 {
-    let states = Count::of(report.states, "state");
-    let steps = Steps::of(report.taken, choices);
-    let _ = eprintln!(rt; "zy_bench: found after {states}: an order of {steps}");
-    DONE
-}
-
-/// What is said where no order is found: in front of the number of states, and behind it.
-#[derive(Clone, Copy)]
-struct NotFound {
-    end: &'static str,
-    furthest: &'static str,
-}
-
-/// There is no order.
-const NO_ORDER: NotFound = NotFound {
-    end: "there is no order,",
-    furthest: "the furthest takes",
-};
-
-/// The search came to no end.
-const GAVE_UP: NotFound = NotFound {
-    end: "gave up",
-    furthest: "no order was found, and the furthest that was tried takes",
-};
-
-/// Reports that no order was found, and how far the furthest comes.
-fn tell_furthest(rt: &impl Eprint, words: NotFound, report: &OrderReport, to: &Furthest<'_>) {
-    let NotFound { end, furthest } = words;
-    let states = Count::of(report.states, "state");
-    let reach = to.reach();
-    let _ = eprintln!(rt; "zy_bench: {end} after {states}: {furthest} {reach}");
 }

@@ -66,16 +66,9 @@ impl<W: Write> Sink for PipeSink<W> {
 
     fn put(&mut self, bytes: &[u8]) -> io::Result<usize> {
         let outcome = self.sink.put(bytes);
-        self.is_unread = self.is_unread || is_of_closed_pipe(&outcome);
+        self.is_unread |=
+            matches!(&outcome, Err(error) if error.kind() == io::ErrorKind::BrokenPipe);
         outcome
-    }
-}
-
-/// Whether a call has failed since the reader of a pipe has closed it.
-fn is_of_closed_pipe<T>(outcome: &io::Result<T>) -> bool {
-    match outcome {
-        Ok(_) => false,
-        Err(error) => error.kind() == io::ErrorKind::BrokenPipe,
     }
 }
 

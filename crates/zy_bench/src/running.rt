@@ -6,7 +6,7 @@ use std::io::{Read, Write};
 use std::sync::Wait;
 use std::thread::Threads;
 use zy_cli::exit_status::DONE;
-use zy_cli::request::{Conversion, Shown};
+use zy_cli::request::Shown;
 use zy_engine::engine::{convert_bytes, run_bytes};
 use zy_engine::threading::threads_bytes;
 use zy_engine::{BenchFault, Format, SourceFormat};
@@ -15,14 +15,6 @@ use zy_machine::Machine;
 use zy_report::explained::explain;
 use zy_report::no_effect::NoEffect;
 use zy_threads::FreeGate;
-
-/// Ends a command that has written: passes on what is kept back, and returns the exit status.
-fn close<W: Write>(output: &mut Output<W>) -> Result<u8, BenchFault>
-    requires { output.old.sink.1 < u64.MAX }
-{
-    pass(output)?;
-    Ok(DONE)
-}
 
 /// Ends a command that has made a run, and says what there is to say of it.
 fn close_run<R: Eprint + AllocGlobal, W: Write>(
@@ -37,10 +29,11 @@ fn close_run<R: Eprint + AllocGlobal, W: Write>(
     Ok(DONE)
 }
 
-/// Runs an engine over what is given, whose bytes it leaves in `input`, and returns the exit status.
-pub fn convert<R: Eprint + AllocGlobal + Threads + Wait + Sync, G: Read, W: Write>(
+/// Writes the scenario that is given in another format, leaves its bytes in `input`, and returns the exit status.
+pub fn convert<R: AllocGlobal, G: Read, W: Write>(
     rt: &R,
-    conversion: Conversion,
+    from: Format,
+    to: SourceFormat,
     given: &mut G,
     input: &mut Vec<u8>,
     output: &mut Output<W>,
@@ -48,33 +41,23 @@ pub fn convert<R: Eprint + AllocGlobal + Threads + Wait + Sync, G: Read, W: Writ
     requires { output.old.sink.1 < u64.MAX }
 {
     let source = &mut CountingReader::new(given);
-    match conversion {
-        Conversion::Run(shown, format) => run(rt, shown, format, source, input, output),
-        Conversion::Asm => {
-            let image = SourceFormat::Image;
-            convert_bytes(rt.alloc(), Format::Text, image, source, output, input)?;
-            close(output)
-        }
-        Conversion::Dis => {
-            let text = SourceFormat::Text;
-            convert_bytes(rt.alloc(), Format::Image, text, source, output, input)?;
-            close(output)
-        }
-    }
+    convert_bytes(rt.alloc(), from, to, source, output, input)?;
+    pass(output)?;
+    Ok(DONE)
 }
 
-/// Makes a run, shows it, and returns the exit status.
-fn run<R: Eprint + AllocGlobal + Threads + Wait + Sync, S: Source, W: Write>(
+/// Makes a run of what is given, shows it, leaves the bytes that were read in `input`, and returns the exit status.
+pub fn run<R: Eprint + AllocGlobal + Threads + Wait + Sync, G: Read, W: Write>(
     rt: &R,
     shown: Shown,
     format: Format,
-    source: &mut S,
+    given: &mut G,
     input: &mut Vec<u8>,
     output: &mut Output<W>,
 ) -> Result<u8, BenchFault>
-    requires source { (S.pulled source.old).failures < u64.MAX }
-    requires output { output.old.sink.1 < u64.MAX }
+    requires { output.old.sink.1 < u64.MAX }
 {
+    let source = &mut CountingReader::new(given);
     let machine = shown_run(rt, shown, format, source, input, output)?;
     let status = close_run(rt, &machine, output);
     machine.discard();

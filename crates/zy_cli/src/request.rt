@@ -3,7 +3,7 @@
 use crate::table::command_of;
 use clap::ArgMatches;
 use zy_diagnostics::CommandName;
-use zy_engine::{Format, RunFormat, SearchOptions, Wording};
+use zy_engine::{Format, RunFormat, SearchOptions, SourceFormat, Wording};
 use zy_order_engine::{LogFormat, OrderOptions};
 use zy_search::ChoiceKinds;
 
@@ -21,8 +21,10 @@ pub struct Request<'a> {
 /// What is asked for.
 #[derive(Clone, Copy)]
 pub enum Task<'a> {
-    /// Print something of a scenario.
-    Convert(Conversion),
+    /// Make a run of a scenario, and print something of it.
+    Run(Shown, Format),
+    /// Write a scenario in another format than the input's.
+    Convert(Format, SourceFormat),
     /// Say whether the input is a listing.
     Check,
     /// Answer commands on the run of a scenario.
@@ -68,17 +70,6 @@ pub struct Checkpoints {
     pub ring: usize,
 }
 
-/// What is printed of a scenario.
-#[derive(Clone, Copy)]
-pub enum Conversion {
-    /// Something of its run.
-    Run(Shown, Format),
-    /// The image of a text.
-    Asm,
-    /// The text of an image.
-    Dis,
-}
-
 /// What is printed of a run.
 #[derive(Clone, Copy)]
 pub enum Shown {
@@ -104,9 +95,9 @@ fn task_of<'a>(command: CommandName, words: &ArgMatches<'a>) -> Task<'a> {
     match command {
         CommandName::Run => run_either(words, RunFormat::Listing, RunFormat::Objects),
         CommandName::Trace => run_either(words, RunFormat::Trace, RunFormat::TracedObjects),
-        CommandName::Threads => run_shown(words, Shown::ByThreads),
-        CommandName::Asm => Task::Convert(Conversion::Asm),
-        CommandName::Dis => Task::Convert(Conversion::Dis),
+        CommandName::Threads => Task::Run(Shown::ByThreads, format_of(words)),
+        CommandName::Asm => Task::Convert(Format::Text, SourceFormat::Image),
+        CommandName::Dis => Task::Convert(Format::Image, SourceFormat::Text),
         CommandName::Check => Task::Check,
         CommandName::Debug => Task::Debug(checkpoints_of(words)),
         CommandName::Search => Task::Search(quest_of(words)),
@@ -123,12 +114,7 @@ fn run_either<'a>(words: &ArgMatches<'_>, text: RunFormat, objects: RunFormat) -
     } else {
         text
     };
-    run_shown(words, Shown::Alone(shown))
-}
-
-/// Shows a run in this form.
-fn run_shown<'a>(words: &ArgMatches<'_>, shown: Shown) -> Task<'a> {
-    Task::Convert(Conversion::Run(shown, format_of(words)))
+    Task::Run(Shown::Alone(shown), format_of(words))
 }
 
 /// What a search is to go by; what was left out is `differs`.
@@ -202,43 +188,22 @@ fn kinds_of(words: &ArgMatches<'_>) -> ChoiceKinds {
         push: true,
     };
     for word in words.get_strs("without").unwrap_or(&[]) {
-        kinds = without(kinds, word);
+        leave_out(&mut kinds, word);
     }
     kinds
 }
 
-/// The kinds without the one that a word names.
-fn without(kinds: ChoiceKinds, word: &str) -> ChoiceKinds {
+/// Leaves out the kind that a word names.
+fn leave_out(kinds: &mut ChoiceKinds, word: &str) {
     match word {
-        "start" => ChoiceKinds {
-            start: false,
-            ..kinds
-        },
-        "begin" => ChoiceKinds {
-            begin: false,
-            ..kinds
-        },
-        "kill" => ChoiceKinds {
-            kill: false,
-            ..kinds
-        },
-        "run" => ChoiceKinds {
-            run: false,
-            ..kinds
-        },
-        "take" => ChoiceKinds {
-            take: false,
-            ..kinds
-        },
-        "finish" => ChoiceKinds {
-            finish: false,
-            ..kinds
-        },
-        "push" => ChoiceKinds {
-            push: false,
-            ..kinds
-        },
-        _ => kinds,
+        "start" => kinds.start = false,
+        "begin" => kinds.begin = false,
+        "kill" => kinds.kill = false,
+        "run" => kinds.run = false,
+        "take" => kinds.take = false,
+        "finish" => kinds.finish = false,
+        "push" => kinds.push = false,
+        _ => {}
     }
 }
 
