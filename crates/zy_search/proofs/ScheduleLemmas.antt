@@ -42,7 +42,7 @@ use Rattle.zy_search.proofs.DepthLemmas.{within}
 use Rattle.zy_search.specs.declared.kinds.ChoiceKinds.{ChoiceKinds}
 
 -- choices, and then others
-play-append : (sc : Scenario) (s : State) (cs ds : List Choice) → play sc s (cs ++ ds) ≡ play sc (play sc s cs) ds
+pub play-append : (sc : Scenario) (s : State) (cs ds : List Choice) → play sc s (cs ++ ds) ≡ play sc (play sc s cs) ds
 play-append sc s [] ds = refl
 play-append sc s (c ∷ cs) ds = play-append sc (step sc c s).after cs ds
 

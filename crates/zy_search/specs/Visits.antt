@@ -95,11 +95,11 @@ IsExpanded h q paths i =
 abbrev pub AreExpanded : History → Sought → List (List Choice) → ℕ → Type 0
 AreExpanded h q paths n = (i : ℕ) → i < n → IsExpanded h q paths i
 
--- a machine where the path at a place leads: it has made its choices, and may have made more that nothing came of
+-- a machine where the path at a place leads: it has made its choices
 pub record IsHere (h : History) (paths : List (List Choice)) (at : ℕ) (m : History) : Type 0 where
   pub scenario : m.scenario ≡ h.scenario
   pub state : m.state ≡ reached h (path_at paths at)
-  pub entries : length h.entries + length_at paths at ≤ length m.entries
+  pub entries : length m.entries ≡ length h.entries + length_at paths at
 
 -- another machine in the same state, which has made no fewer choices
 pub record IsTwin (m twin : History) : Type 0 where

@@ -11,7 +11,7 @@ use crate::tree::ChoiceTree;
 use zy_machine::{Fault, Machine};
 
 /// Makes the choices of a path, from its root on.
-pub fn walk(tree: &ChoiceTree, at: u32, machine: &mut Machine) -> Result<(), Fault>
+fn walk(tree: &ChoiceTree, at: u32, machine: &mut Machine) -> Result<(), Fault>
     requires there { at < length tree.now }
     requires first { path_at tree.now 0 ≡ [] }
     requires named { AreNamed (length machine.old.scenario.programs) (path_at tree.now at) }
@@ -42,8 +42,6 @@ pub(crate) fn go_to(
     requires path { IsPath plan.now.start plan.now.sought (path_at tree.now at) }
     requires same { machine.old.scenario ≡ plan.now.start.scenario }
     ensures here { OnOk result (IsHere plan.now.start tree.now at machine.new) }
-    ensures entries { OnOk result (length machine.new.entries
-        ≡ length plan.now.start.entries + length_at tree.now at) }
 {
     machine.set_to(plan.alloc, &plan.start)?;
     walk(tree, at, machine)
