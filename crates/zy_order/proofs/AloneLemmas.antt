@@ -19,6 +19,7 @@ use Rattle.zy_table.specs.declared.outcome.Outcome.TheVariants as outcome
 use Rattle.zy_table.specs.State.{State, facing}
 use Rattle.zy_table.specs.Play.{play, step, entries}
 use Rattle.zy_laws.proofs.walk.PlayPush.{play-push}
+use Rattle.zy_search.proofs.ScheduleLemmas.{play-append}
 use Rattle.zy_patterns.specs.Patterns.{matches}
 use Rattle.zy_logs.specs.Agrees.{Agrees}
 use Rattle.zy_patterns.specs.declared.patterns.OutcomePattern.{OutcomePattern}
@@ -37,7 +38,7 @@ use Rattle.zy_order.specs.Ways.{log_of, cursor_of, cursor, gap_at, passed, fille
 use Rattle.zy_order.specs.Ways.{IsNoFurther, AreMatched, HasGap, Leads, IsWay}
 use Rattle.zy_order.specs.Reaches.{is_nothing, TellsDid, TellsNothing, MayBeAlone}
 use Rattle.zy_order.proofs.NeedLemmas.{no_further_self}
-use Rattle.zy_order.proofs.WayLemmas.{same_line}
+use Rattle.zy_order.proofs.WayLemmas.{matched_of, same_line}
 
 -- ---- two actors
 
@@ -154,6 +155,7 @@ record HasOwn (sc : Scenario) (l : Logs) (n : Node) (g : Cursors) (s : State) (c
   pub way : IsWay sc l g s before there
   pub leads : Leads (length sc.programs) l there (entry_at sc (play sc s before) own) next
   pub goes_on : IsWay sc l next (step sc own (play sc s before)).after rest to
+  pub ends : play sc s cs ≡ play sc (step sc own (play sc s before)).after rest
 
 -- a way is of others, or has one
 first_own : (sc : Scenario) (l : Logs) (n : Node) (g : Cursors) (s : State) (cs : List Choice) (to : Cursors) → IsWay sc l g s cs to
@@ -172,6 +174,7 @@ first_own sc l n g s (c ∷ cs) to way = elim (same_or_not (actor_of c) (actor_a
     way = refl;
     leads = way.1;
     goes_on = way.2;
+    ends = refl;
   })
   | inr far ↦ elim (first_own sc l n way.0 (step sc c s).after cs to way.2) [
     | inl others ↦ inl (far, others)
@@ -187,6 +190,7 @@ first_own sc l n g s (c ∷ cs) to way = elim (same_or_not (actor_of c) (actor_a
       way = (way.0, way.1, has.way);
       leads = has.leads;
       goes_on = has.goes_on;
+      ends = has.ends;
     })
   ]
 ]
@@ -197,12 +201,6 @@ first_own sc l n g s (c ∷ cs) to way = elim (same_or_not (actor_of c) (actor_a
 no_further_advanced : (n : Node) (g : Cursors) → IsNoFurther g (advanced (actor_at n) g)
 no_further_advanced node.A g = record { nodes = omega arith; client = λ e. absurd (omega (arith, e)) }
 no_further_advanced node.B g = record { nodes = omega arith; client = λ e. absurd (omega (arith, e)) }
-
--- where all lines are matched, those of an actor are
-matched_of : (x : Actor) (l : Logs) (g : Cursors) → AreMatched l g → cursor x g ≡ length (log_of x l)
-matched_of C l g end = end.of_c
-matched_of A l g end = end.of_a
-matched_of B l g end = end.of_b
 
 -- Where a line of node n fits a state: its choice may be made before those of others, behind which it fits as well, and they do
 -- not see it.
@@ -269,7 +267,8 @@ module _ (sc : Scenario) (n : Node) (s : State) (line : LogLine) (tells : TellsN
     unseen = λ cs others. ap (λ (r : State). entries sc r cs) (stays s agrees);
   }
 
--- behind the step of a line, with that line more of x, there is a way that has no more choices than some way without it, and leads as far
+-- behind the step of a line, with that line more of x, there is a way that has no more choices than some way without it, and leads as far:
+-- where that matches all lines it does, too, and leads to the same state
 pub record BeginsBy (sc : Scenario) (l : Logs) (c : Choice) (g : Cursors) (s : State) (cs : List Choice) (to : Cursors) (x : Actor) : Type 0 where
   pub choices : List Choice
   pub end : Cursors
@@ -277,6 +276,7 @@ pub record BeginsBy (sc : Scenario) (l : Logs) (c : Choice) (g : Cursors) (s : S
   pub way : IsWay sc l (advanced x g) (step sc c s).after choices end
   pub further : IsNoFurther to end
   pub whole : AreMatched l to → AreMatched l end
+  pub ends : AreMatched l to → play sc (step sc c s).after choices ≡ play sc s cs
 
 -- The line is the next one of node n, no step may be missing before it, and it comes first.
 module _ (sc : Scenario) (l : Logs) (n : Node) (g : Cursors) (s : State) (line : LogLine) (comes : ComesFirst sc n s line)
@@ -325,19 +325,24 @@ module _ (sc : Scenario) (l : Logs) (n : Node) (g : Cursors) (s : State) (line :
             (way_beside sc l n g s then h.before h.there h.others (comes.unseen h.before h.others) h.way) rest;
         further = no_further_self to;
         whole = λ end. end;
+        ends = λ end.
+            play-append sc then h.before h.rest ∙ (ap (λ (r : State). play sc r h.rest) (sym same) ∙ sym h.ends);
       }
 
   -- a way that has none goes on behind the line, which is one more
   begins_more : (cs : List Choice) (to : Cursors) → AreOfOthers n cs → IsWay sc l g s cs to → BeginsBy sc l line.choice g s cs to x
   begins_more cs to others way =
       let lines = ap (λ (p : Cursor). p.lines) (way_stays sc l n g s cs to others way) in
+      let part : AreMatched l to → ⊥ = λ end.
+      absurd (omega (arith, matched_of x l to end, lines, slice_get_within (log_of x l) (cursor x g) line next)) in
       record {
         choices = cs;
         end = advanced x to;
         few = omega arith;
         way = way_beside sc l n g s then cs to others (comes.unseen cs others) way;
         further = no_further_advanced n to;
-        whole = λ end. absurd (omega (arith, matched_of x l to end, lines, slice_get_within (log_of x l) (cursor x g) line next));
+        whole = λ end. absurd (part end);
+        ends = λ end. absurd (part end);
       }
 
   -- so there is one for each way

@@ -10,11 +10,11 @@ use Rattle.zy_order.specs.declared.gaps.Gaps.{Gaps}
 use Rattle.zy_order.specs.declared.cursors.Cursors.{Cursors}
 use Rattle.zy_order.specs.declared.plan.Plan.{Plan}
 use Rattle.zy_order.specs.declared.answer.OrderAnswer.{OrderAnswer}
-use Rattle.zy_order.specs.declared.answer.OrderAnswer.TheVariants.{Found, Nowhere, Spent}
+use Rattle.zy_order.specs.declared.answer.OrderAnswer.TheVariants.{Found, OtherEnd, Nowhere, Spent}
 use Rattle.zy_order.specs.Gaps.{gaps_of, Completes}
 use Rattle.zy_order.specs.Orders.{lines_of, all_of, choices_of, IsPrefixOrder}
 use Rattle.zy_order.specs.Ways.{log_of, cursor, at_start, IsNoFurther, AreMatched, IsWay, AreLogs}
-use Rattle.zy_order.specs.Answers.{MatchesAll, MatchesPrefixes, MatchesFurthest, IsNowhere, IsAnswer}
+use Rattle.zy_order.specs.Answers.{MatchesAll, MatchesWithEnd, MatchesPrefixes, MatchesFurthest, HasOtherEnd, IsNowhere, IsAnswer}
 use Rattle.zy_order.specs.Reaches.{AnswersFor}
 use Rattle.zy_order.proofs.GapLemmas.{ahead_start, ahead_whole}
 use Rattle.zy_order.proofs.WayLemmas.{HaveGaps, within_start}
@@ -153,9 +153,17 @@ module _ (h : History) (lines : List LogLine) (gaps : Gaps) (l : Logs) (is : Are
 
 -- so each answer that holds of the ways of a plan holds of the orders of its logs
 pub answers : (p : Plan) (h : History) (lines : List LogLine) (gaps : Gaps) (a : OrderAnswer) → p.start ≡ h → AreLogs lines gaps p.logs
-    → HaveGaps p.logs → AnswersFor p a → IsAnswer h lines gaps a
+    → HaveGaps p.logs → AnswersFor p a → IsAnswer h lines gaps p.end a
 answers p h lines gaps (Found v) same is many x =
-    subst (λ (k : History). MatchesAll k lines gaps v.items) same (matches_all p.start lines gaps p.logs is many v.items x.0 x.1 x.2)
+    subst (λ (k : History). MatchesWithEnd k lines gaps p.end v.items) same
+    (record { all = matches_all p.start lines gaps p.logs is many v.items x.0 x.1 x.2.matched; end = x.2.end })
+answers p h lines gaps (OtherEnd v) same is many x =
+    subst (λ (k : History). HasOtherEnd k lines gaps p.end v.items) same (record {
+      all = matches_all p.start lines gaps p.logs is many v.items x.0 x.1.way x.1.matched;
+      none = λ order o.
+          let by = way_by p.start lines gaps p.logs is many (all_of lines) order o in
+          x.1.none (choices_of order) by.0 by.1 (end_by p.start lines gaps p.logs is many order by.0 by.2);
+    })
 answers p h lines gaps (Nowhere v) same is many x =
     subst (λ (k : History). IsNowhere k lines gaps v.items) same (record {
       none = λ order o.

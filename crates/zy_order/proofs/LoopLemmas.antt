@@ -19,7 +19,7 @@ use Rattle.zy_logs.specs.declared.log_line.LogLine.{LogLine}
 use Rattle.zy_search.specs.Searches.{reached}
 use Rattle.zy_machine.specs.Histories.{History}
 use Rattle.zy_search.specs.Visits.{path_at}
-use Rattle.zy_order.specs.Recent.{IsRecentMachine, AreRecentMachines}
+use Rattle.zy_order.specs.Machines.{IsPlaced, AreRecentMachines}
 use Rattle.zy_search.specs.Choices.{is_considered, considered}
 use Rattle.zy_search.proofs.ChoiceLemmas.{has_considered}
 use Rattle.zy_search.proofs.MeetLemmas.{is_one}
@@ -34,18 +34,20 @@ use Rattle.zy_order.specs.declared.line.Met.{Met}
 use Rattle.zy_order.specs.declared.line.Met.TheVariants as met
 use Rattle.zy_order.specs.declared.gaps.Gaps.{Gaps}
 use Rattle.zy_order.specs.Gaps.{gaps_of, gap_count}
-use Rattle.zy_order.specs.Ways.{log_of, cursor_of, cursor, at_start, cursors_in, gap_at, advanced, with_missing, AreMatched, HasGap}
+use Rattle.zy_order.specs.Ways.{log_of, cursor_of, cursor, at_start, cursors_in, gap_at, advanced, with_missing, HasGap}
 use Rattle.zy_order.specs.Reaches.{all_kinds, cursors_at, IsReached, Extends, IsMet, AreMet, IsTried, AreTried, MayBeAlone, LeadsOn, FollowsAll, FollowsAlone}
-use Rattle.zy_order.specs.Reaches.{IsFollowed, AreFollowedBut, HasEachActor, IsMetBy}
+use Rattle.zy_order.specs.Reaches.{IsCompleteAt, IsFollowed, AreFollowedBut, HasEachActor, IsMetBy}
 use Rattle.zy_order.specs.Reaches.{Adds, Follows, IsPlan, IsTaken, IsWayOf, IsKnown, entry_by, state_by}
 use Rattle.zy_order.proofs.WayLemmas.{same_line}
-use Rattle.zy_order.proofs.ReachLemmas.{extends_same, tried_on, followed_on}
+use Rattle.zy_order.proofs.ReachLemmas.{extends_same, complete_before, tried_on, followed_on}
 
 -- ---- what is to do
 
 -- A search begins: the empty path alone is reached, and is to be followed.
 module _ (p : Plan) (s : Search) (plan : IsPlan p) (paths : s.reached.visited ≡ [] ∷ []) (cursors : s.reached.cursors.items ≡ at_start ∷ [])
-    (todo : s.reached.todo.items ≡ 0 ∷ []) (machines : s.recent.machines.items ≡ []) (spare : s.recent.spare ≡ p.start) (twin : s.twin ≡ p.start) where
+    (todo : s.reached.todo.items ≡ 0 ∷ []) (machines : s.recent.machines.items ≡ [])
+    (checkpoints : s.recent.checkpoints.points.items ≡ [])
+    (spare : s.recent.spare ≡ record { machine = p.start; at = None }) (twin : s.twin ≡ p.start) where
   -- there is one path
   one : length s.reached.visited ≡ 1
   one = ap (λ (ps : List (List Choice)). length ps) paths
@@ -87,11 +89,12 @@ module _ (p : Plan) (s : Search) (plan : IsPlan p) (paths : s.reached.visited �
     there = first_todo;
   }
 
-  -- the recent is empty
+  -- no machine is placed
   first_recent : AreRecentMachines p.start s.reached.visited s.recent
   first_recent = record {
-    machines = subst (All (IsRecentMachine p.start s.reached.visited)) (sym machines) (λ k d lt. absurd (omega (arith, lt)));
-    spare = ap (λ (m : History). m.scenario) spare;
+    machines = subst (All (IsPlaced p.start s.reached.visited)) (sym machines) (λ k d lt. absurd (omega (arith, lt)));
+    checkpoints = subst (All (IsPlaced p.start s.reached.visited)) (sym checkpoints) (λ k d lt. absurd (omega (arith, lt)));
+    spare = subst (IsPlaced p.start s.reached.visited) (sym spare) (record { scenario = refl; here = tt });
   }
 
   -- the path is to be followed, and there is no other
@@ -135,11 +138,11 @@ module _ (p : Plan) (r new : Reached) (o : Option ℕ) (is : IsReached p r) (e :
   }
 
   -- what was followed still is
-  pub taken_followed : (i : ℕ) → i < length r.visited → IsFollowed p.start p.logs r i → IsFollowed p.start p.logs new i
-  taken_followed i lt done = followed_on p.start p.logs r new i (extends_same r new paths cursors) lt done
+  pub taken_followed : (i : ℕ) → i < length r.visited → IsFollowed p r i → IsFollowed p new i
+  taken_followed i lt done = followed_on p r new i (extends_same r new paths cursors) lt done
 
 -- where the last place to do was taken, each path but it and those that are still to do was followed; where none was to do, each was
-pub taken : (p : Plan) (r new : Reached) (o : Option ℕ) → IsReached p r → AreFollowedBut p.start p.logs r r.todo.items
+pub taken : (p : Plan) (r new : Reached) (o : Option ℕ) → IsReached p r → AreFollowedBut p r r.todo.items
     → r.todo.items ≡ new.todo.items ++ option_to_list o → (0 < length r.todo.items → IsSome o) → new.visited ≡ r.visited
     → new.cursors.items ≡ r.cursors.items → IsTaken p new o
 taken p r new None is followed e some paths cursors = λ i lt.
@@ -160,18 +163,18 @@ taken p r new (Some at) is followed e some paths cursors =
     )
 
 -- once its path is followed, each but those that are to do then was followed
-pub followed_next : (p : Plan) (s new : Search) (at : ℕ) → IsTaken p s.reached (Some at) → Adds p s new → IsFollowed p.start p.logs new.reached at
-    → AreFollowedBut p.start p.logs new.reached new.reached.todo.items
+pub followed_next : (p : Plan) (s new : Search) (at : ℕ) → IsTaken p s.reached (Some at) → Adds p s new → IsFollowed p new.reached at
+    → AreFollowedBut p new.reached new.reached.todo.items
 followed_next p s new at is adds done = λ i there.
     elim (cases_lt i (length s.reached.visited)) [
       | inr past ↦ inl (adds.more i past there)
       | inl below ↦
           elim (is.1 i below) [
-            | inr old ↦ inr (followed_on p.start p.logs s.reached new.reached i adds.extends below old)
+            | inr old ↦ inr (followed_on p s.reached new.reached i adds.extends below old)
             | inl here ↦
                 elim (Contains-push_cases s.reached.todo.items at i here) [
                   | inl left ↦ inl (adds.still i left)
-                  | inr same ↦ inr (subst (IsFollowed p.start p.logs new.reached) same done)
+                  | inr same ↦ inr (subst (IsFollowed p new.reached) same done)
                 ]
           ]
     ]
@@ -304,10 +307,10 @@ pub all_followed : (h : History) (l : Logs) (r new : Reached) (at : ℕ) → at 
     → FollowsAll h l new at
 all_followed h l r new at lt e tried met = record { tried = λ c named. tried_on h l r new at c e lt (tried c named); met = met }
 
--- where steps of a path were followed, and it does not match all lines, it was followed
-pub is_followed : (h : History) (l : Logs) (r new : Reached) (at : ℕ) → at < length r.visited → Extends r new → (AreMatched l (cursors_at r at) → ⊥)
-    → FollowsAll h l new at ⊎ FollowsAlone h l new at → IsFollowed h l new at
-is_followed h l r new at lt e part steps = record { part = λ end. part (subst (AreMatched l) (e.cursors at lt) end); steps = steps }
+-- where steps of a path were followed, and it is no order with the end that is asked for, it was followed
+pub is_followed : (p : Plan) (r new : Reached) (at : ℕ) → at < length r.visited → Extends r new → (IsCompleteAt p r at → ⊥)
+    → FollowsAll p.start p.logs new at ⊎ FollowsAlone p.start p.logs new at → IsFollowed p new at
+is_followed p r new at lt e part steps = record { part = λ end. part (complete_before p r new at e lt end); steps = steps }
 
 -- ---- results
 

@@ -17,7 +17,7 @@ use Rattle.zy_logs.specs.declared.log_line.LogLine.{LogLine}
 use Rattle.zy_machine.specs.Histories.{History}
 use Rattle.zy_search.specs.Searches.{reached}
 use Rattle.zy_search.specs.Visits.{path_at, Grows, IsHere}
-use Rattle.zy_order.specs.Recent.{AreRecentMachines}
+use Rattle.zy_order.specs.Machines.{AreRecentMachines, IsThere}
 use Rattle.zy_order.specs.declared.recent_machines.RecentMachines.{RecentMachines}
 use Rattle.zy_search.proofs.SearchLemmas.{reached_more, grows_push, before_it, it, old_or_new}
 use Rattle.zy_order.proofs.RecentLemmas.{here_grown, recent_grown}
@@ -133,24 +133,27 @@ module _ (s : Search) (here : Position) (c : Choice) (to : Cursors) (on : GoesOn
   )
 
   -- the twin is there
-  twin_there : (place : ℕ) → place ≡ length r.visited → IsHere p.start new.visited place s.twin
+  twin_there : (place : ℕ) → place ≡ length r.visited → IsThere p.start new.visited place s.twin
   twin_there place e =
       let n = ap (λ (l : List Choice). length l) (new_path place e) in
       record {
-        scenario = on.next.scenario;
-        state = on.next.state ∙ (sym reached_new ∙ ap (reached p.start) (sym (new_path place e)));
-        entries = omega (arith, on.next.longer, n, length-append (path_at r.visited here.at) (c ∷ []));
+        there = omega (arith, e, longer);
+        here = record {
+          scenario = on.next.scenario;
+          state = on.next.state ∙ (sym reached_new ∙ ap (reached p.start) (sym (new_path place e)));
+          entries = omega (arith, on.next.longer, n, length-append (path_at r.visited here.at) (c ∷ []));
+        };
       }
 
   -- what the path adds, where the twin is put on the recent for another machine
   pub adds_new : (place : ℕ) (recent : RecentMachines) (m : History) → place ≡ length r.visited → m.scenario ≡ p.start.scenario
-      → (AreRecentMachines p.start new.visited s.recent → place < length new.visited → IsHere p.start new.visited place s.twin → AreRecentMachines p.start new.visited recent)
+      → (AreRecentMachines p.start new.visited s.recent → IsThere p.start new.visited place s.twin → AreRecentMachines p.start new.visited recent)
       → Adds p s (record { reached = new; recent = recent; twin = m })
   adds_new place recent m e scenario put = record {
     search = record {
       under_way = record { plan = on.at.search.under_way.plan; reached = reached_push };
       recent =
-          put (recent_grown p.start r.visited new.visited s.recent grows_new on.at.search.recent) (omega (arith, e, longer)) (twin_there place e);
+          put (recent_grown p.start r.visited new.visited s.recent grows_new on.at.search.recent) (twin_there place e);
       twin = scenario;
     };
     extends = record { paths = grows_new; cursors = old_cursors };
@@ -197,7 +200,6 @@ stands_on p s t at m adds is = record {
   search = adds.search;
   there = omega (arith, is.there, adds.extends.paths.longer);
   machine = here_grown p.start s.reached.visited t.reached.visited at m adds.extends.paths is.there is.machine;
-  room = is.room;
 }
 
 -- ---- another twin
@@ -217,7 +219,7 @@ entry_here h r at m c here =
 
 -- where the twin has made a choice that leads on, the search goes on by it
 pub goes_on : (s : Search) (here : Position) (c : Choice) (to : Cursors) (twin : History) → IsAt here s → twin.scenario ≡ here.machine.now.scenario
-    → twin.state ≡ (step here.machine.now.scenario c here.machine.now.state).after → length here.machine.now.entries < length twin.entries
+    → twin.state ≡ (step here.machine.now.scenario c here.machine.now.state).after → length twin.entries ≡ length here.machine.now.entries + 1
     → Leads (length here.plan.now.start.scenario.programs) here.plan.now.logs (cursors_at s.reached here.at)
     (entry_by here.plan.now.start s.reached here.at c) to
     → GoesOn (record s { twin = twin }) here c to
@@ -227,7 +229,7 @@ goes_on s here c to twin is scenario state longer leads =
     let same : twin.scenario ≡ sc = scenario ∙ is.machine.scenario in
     let first : (step m.scenario c m.state).after ≡ (step sc c m.state).after = ap (λ (x : Scenario). (step x c m.state).after) is.machine.scenario in
     record {
-      at = record { search = search_twin here.plan.now s twin is.search same; there = is.there; machine = is.machine; room = is.room };
+      at = record { search = search_twin here.plan.now s twin is.search same; there = is.there; machine = is.machine };
       leads = leads;
       next = record {
         scenario = same;

@@ -8,7 +8,7 @@ use Rattle.zy_isa.specs.Choices.{actor_of, actor_at}
 use Rattle.zy_model.specs.Order.{LocksRise}
 use Rattle.zy_table.specs.declared.entry.Entry.{Entry}
 use Rattle.zy_table.specs.State.{State, facing}
-use Rattle.zy_table.specs.Play.{step}
+use Rattle.zy_table.specs.Play.{play, step}
 use Rattle.zy_laws.proofs.walk.PlayPush.{play-keeps}
 use Rattle.zy_laws.proofs.order.ListsInOrder.{Tidy, ordered_from, step_tidy, tidy}
 use Rattle.zy_machine.specs.Histories.{History, choices_of}
@@ -21,11 +21,12 @@ use Rattle.zy_order.specs.declared.logs.Logs.{Logs}
 use Rattle.zy_order.specs.declared.cursors.Cursors.{Cursors}
 use Rattle.zy_order.specs.declared.plan.Plan.{Plan}
 use Rattle.zy_order.specs.declared.reached.Reached.{Reached}
+use Rattle.zy_order.specs.Answers.{HasEnd}
 use Rattle.zy_order.specs.Orders.{entry_at}
 use Rattle.zy_order.specs.Ways.{log_of, cursor, at_start, cursors_in, advanced, with_missing, of_nodes, line_count}
 use Rattle.zy_order.specs.Ways.{IsNoFurther, NeedNoMore, AreMatched, HasNext, HasGap, Leads, IsWay}
 use Rattle.zy_order.specs.Reaches.{cursors_at, entry_by, state_by, Extends, IsKnown, IsReached, IsMet, IsTried, FollowsAll, MayBeAlone, LeadsOn, FollowsAlone}
-use Rattle.zy_order.specs.Reaches.{IsFollowed, IsFurthestPath, IsWayOf, IsFurthestWay, IsPlan}
+use Rattle.zy_order.specs.Reaches.{IsCompleteAt, IsFollowed, IsFurthestPath, IsWayOf, IsFurthestWay, IsOtherEndWay, IsPlan}
 use Rattle.zy_order.proofs.NeedLemmas.{need_self, need_missing, need_lines, way_less, matched_less, no_further_less, no_further_self, no_further_on}
 use Rattle.zy_order.proofs.WayLemmas.{along, log_few, within_start}
 use Rattle.zy_order.proofs.AloneLemmas.{BeginsBy, begins_by}
@@ -58,24 +59,26 @@ lines_lead count l g e to leads = elim leads [
   | inr by ↦ omega (arith, need_lines g (with_missing (actor_of e.choice) g) (need_missing (actor_of e.choice) g), ap lines_in by.1)
 ]
 
--- not all lines are matched by cursors, and a path leads as far
-pub record IsOutdone (l : Logs) (r : Reached) (to : Cursors) : Type 0 where
-  pub part : AreMatched l to → ⊥
+-- a path leads as far as a way to cursors and a state; where these match all lines it does, too, and leads to the same state
+pub record IsOutdone (p : Plan) (r : Reached) (to : Cursors) (s : State) : Type 0 where
   pub place : ℕ
   pub there : place < length r.visited
   pub further : IsNoFurther to (cursors_at r place)
+  pub whole : AreMatched p.logs to → AreMatched p.logs (cursors_at r place)
+  pub ends : AreMatched p.logs to → reached p.start (path_at r.visited place) ≡ s
 
--- so are cursors that need more missing steps
-outdone_less : (l : Logs) (r : Reached) (f g : Cursors) → NeedNoMore f g → IsOutdone l r f → IsOutdone l r g
-outdone_less l r f g n is = record {
-  part = λ end. is.part (matched_less l f g n end);
+-- so it does as far as cursors that need more missing steps
+outdone_less : (p : Plan) (r : Reached) (f g : Cursors) (s : State) → NeedNoMore f g → IsOutdone p r f s → IsOutdone p r g s
+outdone_less p r f g s n is = record {
   place = is.place;
   there = is.there;
   further = no_further_less f g (cursors_at r is.place) n is.further;
+  whole = λ end. is.whole (matched_less p.logs f g n end);
+  ends = λ end. is.ends (matched_less p.logs f g n end);
 }
 
 -- Each path was followed.
-module _ (p : Plan) (r : Reached) (plan : IsPlan p) (is : IsReached p r) (all : (i : ℕ) → i < length r.visited → IsFollowed p.start p.logs r i) where
+module _ (p : Plan) (r : Reached) (plan : IsPlan p) (is : IsReached p r) (all : (i : ℕ) → i < length r.visited → IsFollowed p r i) where
   abbrev h : History
   h = p.start
 
@@ -95,21 +98,29 @@ module _ (p : Plan) (r : Reached) (plan : IsPlan p) (is : IsReached p r) (all : 
   -- each way from a path is outdone, if no more choices and lines are left than this
   abbrev Ends : ℕ → Type 0
   Ends most = (i : ℕ) → i < length r.visited → (cs : List Choice) (to : Cursors) → IsWay h.scenario l (cursors_at r i) (state_at i) cs to
-      → length cs + line_count l ≤ most + lines_in (cursors_at r i) → IsOutdone l r to
+      → length cs + line_count l ≤ most + lines_in (cursors_at r i) → IsOutdone p r to (play h.scenario (state_at i) cs)
 
   -- one without a choice is
-  ends_here : (i : ℕ) → i < length r.visited → (to : Cursors) → cursors_at r i ≡ to → IsOutdone l r to
+  ends_here : (i : ℕ) → i < length r.visited → (to : Cursors) → cursors_at r i ≡ to → IsOutdone p r to (state_at i)
   ends_here i lt to way =
-      subst (IsOutdone l r) way (record { part = (all i lt).part; place = i; there = lt; further = no_further_self (cursors_at r i) })
+      subst (λ (g : Cursors). IsOutdone p r g (state_at i)) way (record {
+        place = i;
+        there = lt;
+        further = no_further_self (cursors_at r i);
+        whole = λ end. end;
+        ends = λ end. refl;
+      })
 
   -- so is one from where a path leads
   from_known : (most : ℕ) → Ends most → (g : Cursors) (s : State) → IsKnown h r g s → (cs : List Choice) (to : Cursors) → IsWay h.scenario l g s cs to
-      → length cs + line_count l ≤ most + lines_in g → IsOutdone l r to
+      → length cs + line_count l ≤ most + lines_in g → IsOutdone p r to (play h.scenario s cs)
   from_known most ends g s known cs to way few =
       let i = known.0 in
       let here = subst (λ (x : State). IsWay h.scenario l g x cs to) (sym known.3) way in
       let less = way_less h.scenario l (cursors_at r i) g (state_at i) cs to known.2 here in
-      outdone_less l r less.end to less.need (ends i known.1 cs less.end less.way (omega (arith, few, need_lines (cursors_at r i) g known.2)))
+      subst (λ (x : State). IsOutdone p r to (play h.scenario x cs)) known.3
+      (outdone_less p r less.end to (play h.scenario (state_at i) cs) less.need
+      (ends i known.1 cs less.end less.way (omega (arith, few, need_lines (cursors_at r i) g known.2))))
 
   -- the locks of a node are in order there
   locks_at : (n : Node) (i : ℕ) → LocksRise (facing n (state_at i)).me.locks
@@ -143,10 +154,11 @@ module _ (p : Plan) (r : Reached) (plan : IsPlan p) (is : IsReached p r) (all : 
             let end = from_known most ends (advanced x g) (state_by h r i one.line.choice) one.leads.known begins.choices begins.end begins.way
             (omega (arith, few, begins.few, lines_advanced x g)) in
             record {
-              part = λ whole. end.part (begins.whole whole);
               place = end.place;
               there = end.there;
               further = no_further_on to begins.end (cursors_at r end.place) begins.further end.further;
+              whole = λ whole. end.whole (begins.whole whole);
+              ends = λ whole. end.ends (begins.whole whole) ∙ begins.ends whole;
             }
       ]
 
@@ -157,7 +169,7 @@ module _ (p : Plan) (r : Reached) (plan : IsPlan p) (is : IsReached p r) (all : 
   ends_all (suc most) i lt cs to way few = ends_more most (ends_all most) i lt cs to way few
 
   -- and each way from the start
-  pub way_outdone : (cs : List Choice) (to : Cursors) → IsWayOf p cs to → IsOutdone l r to
+  pub way_outdone : (cs : List Choice) (to : Cursors) → IsWayOf p cs to → IsOutdone p r to (reached h cs)
   way_outdone cs to way =
       let start : NeedNoMore (cursors_at r 0) at_start = subst (NeedNoMore (cursors_at r 0)) is.start (need_self (cursors_at r 0)) in
       let known : IsKnown h r at_start h.state = (0, is.some, start, ap (reached h) is.first) in
@@ -169,16 +181,30 @@ path_furthest : (p : Plan) (r : Reached) (best : ℕ) → IsReached p r → IsFu
     → IsNoFurther (cursors_at r i) (cursors_at r best)
 path_furthest p r best is furthest i at = furthest i (omega (arith, at, is.many))
 
--- so no way matches all lines, and none leads further than the path that leads furthest
+-- so where no path matches all lines no way does, and none leads further than the path that leads furthest
 pub furthest_way : (p : Plan) (r : Reached) (best : ℕ) → IsPlan p → IsReached p r → best < length r.cursors.items → IsFurthestPath r best
-    → ((i : ℕ) → i < length r.visited → IsFollowed p.start p.logs r i)
+    → ((i : ℕ) → i < length r.visited → IsFollowed p r i) → ((i : ℕ) → i < length r.cursors.items → AreMatched p.logs (cursors_at r i) → ⊥)
     → IsFurthestWay p (path_at r.visited best) (cursors_at r best)
-furthest_way p r best plan is lt furthest all = record {
+furthest_way p r best plan is lt furthest all unmatched = record {
   way = is.ways best (omega (arith, lt, is.many));
-  none = λ cs end way. (way_outdone p r plan is all cs end way).part;
+  none = λ cs end way whole.
+      let out = way_outdone p r plan is all cs end way in
+      unmatched out.place (omega (arith, out.there, is.many)) (out.whole whole);
   most = λ cs end way.
       let out = way_outdone p r plan is all cs end way in
       no_further_on end (cursors_at r out.place) (cursors_at r best) out.further (path_furthest p r best is furthest out.place out.there);
+}
+
+-- and where a path matches all lines it is a way that does, and no such way has the end that is asked for
+pub other_end_way : (p : Plan) (r : Reached) (at : ℕ) → IsPlan p → IsReached p r → at < length r.cursors.items → AreMatched p.logs (cursors_at r at)
+    → ((i : ℕ) → i < length r.visited → IsFollowed p r i)
+    → IsOtherEndWay p (path_at r.visited at) (cursors_at r at)
+other_end_way p r at plan is lt matched all = record {
+  way = is.ways at (omega (arith, lt, is.many));
+  matched = matched;
+  none = λ cs end way whole has.
+      let out = way_outdone p r plan is all cs end way in
+      (all out.place out.there).part (record { matched = out.whole whole; end = subst (HasEnd p.end) (sym (out.ends whole)) has });
 }
 
 -- ---- paths are added
@@ -265,13 +291,20 @@ alone_on h l r new i e lt is = record {
   leads = leads_on h r new i (actor_at is.node) is.line e lt is.leads;
 }
 
+-- a path that is an order with the end that is asked for was one
+pub complete_before : (p : Plan) (r new : Reached) (i : ℕ) → Extends r new → i < length r.visited → IsCompleteAt p new i → IsCompleteAt p r i
+complete_before p r new i e lt end = record {
+  matched = subst (AreMatched p.logs) (e.cursors i lt) end.matched;
+  end = subst (λ (path : List Choice). HasEnd p.end (reached p.start path)) (e.paths.same i lt) end.end;
+}
+
 -- a path that was followed still is
-pub followed_on : (h : History) (l : Logs) (r new : Reached) (i : ℕ) → Extends r new → i < length r.visited → IsFollowed h l r i → IsFollowed h l new i
-followed_on h l r new i e lt is = record {
-  part = λ end. is.part (subst (AreMatched l) (e.cursors i lt) end);
+pub followed_on : (p : Plan) (r new : Reached) (i : ℕ) → Extends r new → i < length r.visited → IsFollowed p r i → IsFollowed p new i
+followed_on p r new i e lt is = record {
+  part = λ end. is.part (complete_before p r new i e lt end);
   steps = elim is.steps [
-    | inl each ↦ inl (all_on h l r new i e lt each)
-    | inr one ↦ inr (alone_on h l r new i e lt one)
+    | inl each ↦ inl (all_on p.start p.logs r new i e lt each)
+    | inr one ↦ inr (alone_on p.start p.logs r new i e lt one)
   ];
 }
 

@@ -1,14 +1,14 @@
--- What stays true of a recent.
+-- What stays true of the machines that an order keeps.
 use Rattle.std.specs.List.{All}
-use Rattle.std.proofs.Common.{◌∙◌, ℕ, zero, suc, ◌<◌, List, [], ◌∷◌, length, sym, ap, arith, Option, None, Some}
+use Rattle.std.proofs.Common.{◌≡◌, ◌∙◌, ℕ, zero, suc, ◌<◌, List, [], ◌∷◌, length, sym, ap, subst, arith, Option, None, Some}
 use Rattle.std.proofs.Common.{IfSome, Result, Ok, Err, OnOk}
 use Rattle.zy_isa.specs.declared.choice.Choice.{Choice}
 use Rattle.zy_machine.specs.Histories.{History}
-use Rattle.zy_order.specs.declared.recent_machines.RecentMachine.{RecentMachine}
+use Rattle.zy_order.specs.declared.placed_machine.PlacedMachine.{PlacedMachine}
 use Rattle.zy_order.specs.declared.recent_machines.RecentMachines.{RecentMachines}
 use Rattle.zy_search.specs.Searches.{reached}
 use Rattle.zy_search.specs.Visits.{IsHere, Grows}
-use Rattle.zy_order.specs.Recent.{IsRecentMachine, AreRecentMachines}
+use Rattle.zy_order.specs.Machines.{IsPlaced, AreRecentMachines, IsThere}
 
 -- what holds in any case holds where a call succeeds
 pub in_any_case : {X E : Type 0} (P : Type 0) (r : Result X E) → P → OnOk r P
@@ -23,20 +23,37 @@ here_grown h ps qs at m g lt x = record {
   entries = omega (arith, x.entries, ap (λ (p : List Choice). length p) (g.same at lt));
 }
 
--- so is that of a kept, if it has one
-named_grown : (h : History) (ps qs : List (List Choice)) (m : History) (o : Option ℕ) → Grows ps qs → IfSome o (λ at. (at < length ps) × IsHere h ps at m)
-    → IfSome o (λ at. (at < length qs) × IsHere h qs at m)
-named_grown h ps qs m None g x = tt
-named_grown h ps qs m (Some at) g x = (omega (arith, x.0, g.longer), here_grown h ps qs at m g x.0 x.1)
+-- so is the path
+there_grown : (h : History) (ps qs : List (List Choice)) (at : ℕ) (m : History) → Grows ps qs → IsThere h ps at m → IsThere h qs at m
+there_grown h ps qs at m g x = record { there = omega (arith, x.there, g.longer); here = here_grown h ps qs at m g x.there x.here }
 
--- paths are added
+-- and its place, if one is known
+here_if_grown : (h : History) (ps qs : List (List Choice)) (m : History) (o : Option ℕ) → Grows ps qs → IfSome o (λ at. IsThere h ps at m)
+    → IfSome o (λ at. IsThere h qs at m)
+here_if_grown h ps qs m None g x = tt
+here_if_grown h ps qs m (Some at) g x = there_grown h ps qs at m g x
+
+-- so a placed machine stays one
+pub placed_grown : (h : History) (ps qs : List (List Choice)) (m : PlacedMachine) → Grows ps qs → IsPlaced h ps m → IsPlaced h qs m
+placed_grown h ps qs m g x = record { scenario = x.scenario; here = here_if_grown h ps qs m.machine m.at g x.here }
+
+-- and all that are kept do
 pub recent_grown : (h : History) (ps qs : List (List Choice)) (s : RecentMachines) → Grows ps qs → AreRecentMachines h ps s → AreRecentMachines h qs s
 recent_grown h ps qs s g x = record {
-  machines = λ k d lt. let kept = x.machines k d lt in record { scenario = kept.scenario; here = named_grown h ps qs _ _ g kept.here };
-  spare = x.spare;
+  machines = λ k d lt. placed_grown h ps qs _ g (x.machines k d lt);
+  checkpoints = λ k d lt. placed_grown h ps qs _ g (x.checkpoints k d lt);
+  spare = placed_grown h ps qs s.spare g x.spare;
 }
 
--- one kept alone
-pub one_machine : (h : History) (ps : List (List Choice)) (kept : RecentMachine) → IsRecentMachine h ps kept → All (IsRecentMachine h ps) (kept ∷ [])
-one_machine h ps kept is zero d lt = is
-one_machine h ps kept is (suc k) d lt = absurd (omega (arith, lt))
+-- a machine where a path leads is placed there
+pub placed_there : (h : History) (ps : List (List Choice)) (at : ℕ) (m : History) → IsThere h ps at m → IsPlaced h ps (record { machine = m; at = Some at })
+placed_there h ps at m x = record { scenario = x.here.scenario; here = x }
+
+-- a placed machine with a known place is there
+pub there_placed : (h : History) (ps : List (List Choice)) (at : ℕ) (m : PlacedMachine) → m.at ≡ Some at → IsPlaced h ps m → IsThere h ps at m.machine
+there_placed h ps at m e x = subst (λ (o : Option ℕ). IfSome o (λ k. IsThere h ps k m.machine)) e x.here
+
+-- a placed machine alone
+pub one_machine : (h : History) (ps : List (List Choice)) (m : PlacedMachine) → IsPlaced h ps m → All (IsPlaced h ps) (m ∷ [])
+one_machine h ps m is zero d lt = is
+one_machine h ps m is (suc k) d lt = absurd (omega (arith, lt))

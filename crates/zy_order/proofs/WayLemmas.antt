@@ -1,5 +1,5 @@
 -- Choices that go along the logs.
-use Rattle.std.proofs.Common.{◌≡◌, ◌∙◌, ℕ, ◌+◌, ◌<◌, ◌≤◌, inl, inr, List, [], ◌∷◌, ◌++◌, length, refl, sym, subst, arith, true, take, slice_get, Some}
+use Rattle.std.proofs.Common.{length-append, ◌≡◌, ◌∙◌, ℕ, ◌+◌, ◌<◌, ◌≤◌, inl, inr, List, [], ◌∷◌, ◌++◌, length, refl, sym, subst, arith, true, take, slice_get, Some}
 use Rattle.std.specs.Prelude.{sum}
 use Rattle.std.proofs.lemmas.Option.{slice_get_within}
 use Rattle.std.proofs.lemmas.Bool.{cases_lt}
@@ -148,6 +148,16 @@ possible_fewer l g many w part =
           ]
     ]
 
+-- where all lines are matched, those of an actor are
+pub matched_of : (x : Actor) (l : Logs) (g : Cursors) → AreMatched l g → cursor x g ≡ length (log_of x l)
+matched_of C l g end = end.of_c
+matched_of A l g end = end.of_a
+matched_of B l g end = end.of_b
+
+-- where an actor has a next line, not all are
+pub next_part : (x : Actor) (l : Logs) (g : Cursors) (line : LogLine) → slice_get (log_of x l) (cursor x g) ≡ Some line → AreMatched l g → ⊥
+next_part x l g line next end = absurd (omega (arith, matched_of x l g end, slice_get_within (log_of x l) (cursor x g) line next))
+
 -- a line that fits where an actor is is its next one
 pub same_line : (l : Logs) (g : Cursors) (e : Entry) (x : Actor) (line : LogLine) → actor_of e.choice ≡ x
     → slice_get (log_of x l) (cursor x g) ≡ Some line → (fits : HasNext l g e) → line ≡ fits.line
@@ -208,3 +218,10 @@ pub way_push : (sc : Scenario) (l : Logs) (g : Cursors) (s : State) (cs : List C
 way_push sc l g s [] to c on way leads =
     (on, subst (λ (f : Cursors). Leads (length sc.programs) l f (entry_at sc s c) on) (sym way) leads, refl)
 way_push sc l g s (d ∷ cs) to c on way leads = (way.0, way.1, way_push sc l way.0 (step sc d s).after cs to c on way.2 leads)
+
+-- so a way that a step may follow has fewer choices than the logs have room for steps
+pub way_room : (sc : Scenario) (l : Logs) (s : State) (cs : List Choice) (to : Cursors) (c : Choice) (on : Cursors) → HaveGaps l
+    → IsWay sc l at_start s cs to → Leads (length sc.programs) l to (entry_at sc (play sc s cs) c) on
+    → length cs < step_count l
+way_room sc l s cs to c on many way leads =
+    omega (arith, way_few sc l s (cs ++ c ∷ []) on many (way_push sc l at_start s cs to c on way leads), length-append cs (c ∷ []))

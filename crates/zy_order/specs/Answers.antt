@@ -1,14 +1,19 @@
 -- What a search for an order answers.
-use Rattle.std.specs.Prelude.{ℕ, ◌≡◌, ◌≤◌, ◌+◌, List, length}
+use Rattle.std.specs.Prelude.{ℕ, ◌≡◌, ◌≤◌, ◌+◌, List, true, length}
 use Rattle.zy_isa.specs.Limits.{max_choices}
 use Rattle.zy_isa.specs.declared.node.Actor.{Actor}
 use Rattle.zy_isa.specs.declared.node.Actor.TheVariants.{C, A, B}
 use Rattle.zy_isa.specs.Scenario.{AreNamed}
 use Rattle.zy_isa.specs.declared.choice.Choice.{Choice}
+use Rattle.zy_table.specs.State.{State}
 use Rattle.zy_machine.specs.Histories.{History}
+use Rattle.zy_goals.specs.Facts.{is_over}
+use Rattle.zy_search.specs.Searches.{reached}
 use Rattle.zy_logs.specs.declared.log_line.LogLine.{LogLine}
 use Rattle.zy_order.specs.declared.answer.OrderAnswer.{OrderAnswer}
 use Rattle.zy_order.specs.declared.answer.OrderAnswer.TheVariants as answer
+use Rattle.zy_order.specs.declared.end.End.{End}
+use Rattle.zy_order.specs.declared.end.End.TheVariants as end
 use Rattle.zy_order.specs.declared.gaps.Gaps.{Gaps}
 use Rattle.zy_order.specs.Gaps.{gaps_of, gap_count}
 use Rattle.zy_order.specs.Orders.{lines_of, IsOrder, IsPrefixOrder, choices_of}
@@ -28,6 +33,25 @@ MatchesAll h lines gaps cs = (order : List LogLine) × IsOrder h.scenario h.stat
 abbrev pub MatchesPrefixes : History → List LogLine → Gaps → List Choice → Type 0
 MatchesPrefixes h lines gaps cs = (taken : Actor → ℕ) × (order : List LogLine)
     × IsPrefixOrder h.scenario h.state lines gaps taken order × (cs ≡ choices_of order)
+
+-- what is asked of the last state of an order
+abbrev pub HasEnd : End → State → Type 0
+HasEnd end.Any s = Unit {0}
+HasEnd end.Settled s = is_over s ≡ true
+
+-- the choices of an order of the logs, with this end
+pub record MatchesWithEnd (h : History) (lines : List LogLine) (gaps : Gaps) (e : End) (cs : List Choice) : Type 0 where
+  pub all : MatchesAll h lines gaps cs
+  pub end : HasEnd e (reached h cs)
+
+-- no order of the logs has this end
+abbrev pub HasNoneWithEnd : History → List LogLine → Gaps → End → Type 0
+HasNoneWithEnd h lines gaps e = (order : List LogLine) → IsOrder h.scenario h.state lines gaps order → HasEnd e (reached h (choices_of order)) → ⊥
+
+-- there are orders of the logs, one with these choices, and none has this end
+pub record HasOtherEnd (h : History) (lines : List LogLine) (gaps : Gaps) (e : End) (cs : List Choice) : Type 0 where
+  pub all : MatchesAll h lines gaps cs
+  pub none : HasNoneWithEnd h lines gaps e
 
 -- no list of lines is an order of the logs
 abbrev pub HasNoOrder : History → List LogLine → Gaps → Type 0
@@ -56,8 +80,9 @@ pub record IsNowhere (h : History) (lines : List LogLine) (gaps : Gaps) (cs : Li
   pub none : HasNoOrder h lines gaps
   pub furthest : MatchesFurthest h lines gaps cs
 
--- what each answer says of the logs
-abbrev pub IsAnswer : History → List LogLine → Gaps → OrderAnswer → Type 0
-IsAnswer h lines gaps (answer.Found v) = MatchesAll h lines gaps v.items
-IsAnswer h lines gaps (answer.Nowhere v) = IsNowhere h lines gaps v.items
-IsAnswer h lines gaps (answer.Spent v) = MatchesPrefixes h lines gaps v.items
+-- what each answer says of the logs, where this end is asked for
+abbrev pub IsAnswer : History → List LogLine → Gaps → End → OrderAnswer → Type 0
+IsAnswer h lines gaps e (answer.Found v) = MatchesWithEnd h lines gaps e v.items
+IsAnswer h lines gaps e (answer.OtherEnd v) = HasOtherEnd h lines gaps e v.items
+IsAnswer h lines gaps e (answer.Nowhere v) = IsNowhere h lines gaps v.items
+IsAnswer h lines gaps e (answer.Spent v) = MatchesPrefixes h lines gaps v.items

@@ -2,5 +2,5 @@ pub mod Gaps
 pub mod Orders
 pub mod Ways
 pub mod Answers
-pub mod Recent
+pub mod Machines
 pub mod Reaches

@@ -20,7 +20,8 @@ use Rattle.zy_search.specs.declared.kinds.ChoiceKinds.{ChoiceKinds}
 use Rattle.zy_search.specs.Choices.{considered}
 use Rattle.zy_search.specs.Searches.{reached}
 use Rattle.zy_search.specs.Visits.{path_at, length_at, Grows, IsHere}
-use Rattle.zy_order.specs.Recent.{AreRecentMachines}
+use Rattle.zy_order.specs.Machines.{AreRecentMachines, IsPlaced}
+use Rattle.zy_order.specs.declared.placed_machine.PlacedMachine.{PlacedMachine}
 use Rattle.zy_order.specs.declared.logs.Logs.{Logs}
 use Rattle.zy_order.specs.declared.cursors.Cursors.{Cursors}
 use Rattle.zy_order.specs.declared.plan.Plan.{Plan}
@@ -34,6 +35,7 @@ use Rattle.zy_order.specs.declared.follow.Followed.{Followed}
 use Rattle.zy_order.specs.declared.follow.Followed.TheVariants as followed
 use Rattle.zy_order.specs.declared.line.Met.{Met}
 use Rattle.zy_order.specs.declared.line.Met.TheVariants as met
+use Rattle.zy_order.specs.Answers.{HasEnd}
 use Rattle.zy_order.specs.Orders.{entry_at}
 use Rattle.zy_order.specs.Gaps.{gaps_of}
 use Rattle.zy_order.specs.Ways.{log_of, cursor, at_start, cursors_in, advanced, with_missing, step_count}
@@ -63,6 +65,12 @@ pub record IsFurthestWay (p : Plan) (cs : List Choice) (to : Cursors) : Type 0 w
   pub way : IsWayOf p cs to
   pub none : (ds : List Choice) → (end : Cursors) → IsWayOf p ds end → AreMatched p.logs end → ⊥
   pub most : (ds : List Choice) → (end : Cursors) → IsWayOf p ds end → IsNoFurther end to
+
+-- a way that matches all lines, where no way that does has the end that is asked for
+pub record IsOtherEndWay (p : Plan) (cs : List Choice) (to : Cursors) : Type 0 where
+  pub way : IsWayOf p cs to
+  pub matched : AreMatched p.logs to
+  pub none : (ds : List Choice) → (end : Cursors) → IsWayOf p ds end → AreMatched p.logs end → HasEnd p.end (reached p.start ds) → ⊥
 
 -- ---- what it has reached
 
@@ -189,31 +197,39 @@ pub record FollowsAlone (h : History) (logs : Logs) (r : Reached) (i : ℕ) : Ty
   pub may : MayBeAlone node logs (cursors_at r i) line
   pub leads : LeadsOn h r i (actor_at node) line
 
--- the path at a place was followed: it does not match all lines, and all steps were followed, or one line alone
-pub record IsFollowed (h : History) (logs : Logs) (r : Reached) (i : ℕ) : Type 0 where
-  pub part : AreMatched logs (cursors_at r i) → ⊥
-  pub steps : FollowsAll h logs r i ⊎ FollowsAlone h logs r i
+-- all lines are matched, and the state has the end that is asked for
+pub record IsComplete (p : Plan) (cursors : Cursors) (s : State) : Type 0 where
+  pub matched : AreMatched p.logs cursors
+  pub end : HasEnd p.end s
+
+-- the path at a place is an order with the end that is asked for
+abbrev pub IsCompleteAt : Plan → Reached → ℕ → Type 0
+IsCompleteAt p r i = IsComplete p (cursors_at r i) (reached p.start (path_at r.visited i))
+
+-- the path at a place was followed: it is no such order, and all steps were followed, or one line alone
+pub record IsFollowed (p : Plan) (r : Reached) (i : ℕ) : Type 0 where
+  pub part : IsCompleteAt p r i → ⊥
+  pub steps : FollowsAll p.start p.logs r i ⊎ FollowsAlone p.start p.logs r i
 
 -- each path but those that are to do was followed
-abbrev pub AreFollowedBut : History → Logs → Reached → List ℕ → Type 0
-AreFollowedBut h logs r todo = (i : ℕ) → i < length r.visited → Contains todo i ⊎ IsFollowed h logs r i
+abbrev pub AreFollowedBut : Plan → Reached → List ℕ → Type 0
+AreFollowedBut p r todo = (i : ℕ) → i < length r.visited → Contains todo i ⊎ IsFollowed p r i
 
 -- the last place to do was taken, and each path but it and those to do was followed; or none was, and each path was
 abbrev pub IsTaken : Plan → Reached → Option ℕ → Type 0
-IsTaken p r None = (i : ℕ) → i < length r.visited → IsFollowed p.start p.logs r i
-IsTaken p r (Some at) = (at < length r.visited) × AreFollowedBut p.start p.logs r (r.todo.items ++ at ∷ [])
+IsTaken p r None = (i : ℕ) → i < length r.visited → IsFollowed p r i
+IsTaken p r (Some at) = (at < length r.visited) × AreFollowedBut p r (r.todo.items ++ at ∷ [])
 
 -- a search follows its paths: each but those that are to do was followed
 pub record Follows (p : Plan) (s : Search) : Type 0 where
   pub search : IsSearch p s
-  pub followed : AreFollowedBut p.start p.logs s.reached s.reached.todo.items
+  pub followed : AreFollowedBut p s.reached s.reached.todo.items
 
--- the path at a place can be followed: it does not match all lines, and the machine is one of the plan's scenario
-pub record IsDue (p : Plan) (s : Search) (at : ℕ) (m : History) : Type 0 where
+-- the path at a place can be gone to, with a machine
+pub record IsDue (p : Plan) (s : Search) (at : ℕ) (m : PlacedMachine) : Type 0 where
   pub search : IsSearch p s
   pub there : at < length s.reached.visited
-  pub part : AreMatched p.logs (cursors_at s.reached at) → ⊥
-  pub machine : m.scenario ≡ p.start.scenario
+  pub machine : IsPlaced p.start s.reached.visited m
 
 -- each actor has a turn
 abbrev pub HasEachActor : Turns → Type 0
@@ -221,12 +237,11 @@ HasEachActor turns = (x : Actor) → (x ≡ turns.first) ⊎ (x ≡ turns.second
 
 -- ---- what a part of a search adds
 
--- a search goes on from a path: a machine is where it leads, with room in its history for one choice more
+-- a search goes on from a path: a machine is where it leads
 pub record StandsAt (p : Plan) (s : Search) (at : ℕ) (m : History) : Type 0 where
   pub search : IsSearch p s
   pub there : at < length s.reached.visited
   pub machine : IsHere p.start s.reached.visited at m
-  pub room : length m.entries < max_choices
 
 -- a search goes on from a position
 abbrev pub IsAt : Position → Search → Type 0
@@ -236,7 +251,7 @@ IsAt here s = StandsAt here.plan.now s here.at here.machine.now
 pub record IsNext (h : History) (r : Reached) (at : ℕ) (c : Choice) (m : History) : Type 0 where
   pub scenario : m.scenario ≡ h.scenario
   pub state : m.state ≡ state_by h r at c
-  pub longer : length h.entries + length_at r.visited at < length m.entries
+  pub longer : length m.entries ≡ length h.entries + length_at r.visited at + 1
 
 -- what came of a line of an actor where the path at a place leads
 abbrev pub IsMetBy : History → Reached → ℕ → Actor → LogLine → Met → Type 0
@@ -266,14 +281,15 @@ pub record KeepsOthers (p : Plan) (old new : Search) : Type 0 where
 
 -- ---- what comes of it
 
--- what came of following the paths: one matches all lines, or each was followed, or the search gave up
+-- what came of following the paths: one is an order with the end that is asked for, or each was followed, or the search gave up
 abbrev pub Settles : Plan → Reached → Followed → Type 0
-Settles p r (followed.Whole i) = (i < length r.visited) × AreMatched p.logs (cursors_at r i)
-Settles p r followed.Nowhere = (i : ℕ) → i < length r.visited → IsFollowed p.start p.logs r i
+Settles p r (followed.Whole i) = (i < length r.visited) × IsCompleteAt p r i
+Settles p r followed.Nowhere = (i : ℕ) → i < length r.visited → IsFollowed p r i
 Settles p r followed.Spent = Unit {0}
 
 -- what each answer says of the ways along the logs
 abbrev pub AnswersFor : Plan → OrderAnswer → Type 0
-AnswersFor p (answer.Found v) = (to : Cursors) × IsWayOf p v.items to × AreMatched p.logs to
+AnswersFor p (answer.Found v) = (to : Cursors) × IsWayOf p v.items to × IsComplete p to (reached p.start v.items)
+AnswersFor p (answer.OtherEnd v) = (to : Cursors) × IsOtherEndWay p v.items to
 AnswersFor p (answer.Nowhere v) = (to : Cursors) × IsFurthestWay p v.items to
 AnswersFor p (answer.Spent v) = (to : Cursors) × IsWayOf p v.items to

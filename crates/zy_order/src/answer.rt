@@ -6,8 +6,10 @@ use zy_isa::Choice;
 /// that its log lacks in the gaps, and each of its lines agrees with what comes of its choice.
 #[derive(Drop)]
 pub enum OrderAnswer {
-    /// The choices of an order: of all lines, and of missing steps.
+    /// The choices of an order with the end that is asked for: of all lines, and of missing steps.
     Found(Vec<Choice>),
+    /// There are orders of all lines, and none of them has that end. These are the choices of one.
+    OtherEnd(Vec<Choice>),
     /// There is no order. These are the choices of a furthest order of prefixes of the logs: none takes more lines of A
     /// and B together, and none that takes as many takes fewer of the client. So the next line of A does not fit behind
     /// it, nor does that of B; the client's may.

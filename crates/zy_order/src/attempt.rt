@@ -1,5 +1,5 @@
 //! One choice more, on a machine of its own.
-ghost use Rattle.std.specs.Prelude.{◌≡◌, ◌<◌, IfOk, OnOk, true, length};
+ghost use Rattle.std.specs.Prelude.{◌≡◌, ◌<◌, ◌+◌, IfOk, OnOk, true, length};
 ghost use Rattle.zy_isa.specs.Choices.{names_below};
 ghost use Rattle.zy_isa.specs.Limits.{max_choices};
 ghost use Rattle.zy_table.specs.Play as table;
@@ -22,7 +22,7 @@ pub(crate) fn attempt(
     requires room { length here.now.entries < max_choices }
     ensures entry { IfOk result (λ e. e ≡ entry_at here.now.scenario here.now.state choice) }
     ensures state { OnOk result (twin.new.state ≡ (table.step here.now.scenario choice here.now.state).after) }
-    ensures longer { OnOk result (length here.now.entries < length twin.new.entries) }
+    ensures longer { OnOk result (length twin.new.entries ≡ length here.now.entries + 1) }
     ensures scenario { OnOk result (twin.new.scenario ≡ here.now.scenario) }
 {
     twin.set_to(alloc, here)?;

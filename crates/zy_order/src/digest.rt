@@ -13,24 +13,31 @@ fn mixed(digest: u64, number: u64) -> u64 {
 }
 
 /// Equal states have equal digests, and most different states have different ones. No contract promises this: a bad
-/// digest costs only time.
+/// digest costs only time. The rows of pages are left out, since the commits in their order decide them.
 pub fn digest(machine: &Machine) -> u64 {
-    let modes = mixed(
-        mode_number(machine.mode(Node::A)),
-        mode_number(machine.mode(Node::B)),
-    );
-    let txns = mixed_txns(mixed_pages(modes, machine), machine);
+    let (a, b) = (machine.mode(Node::A), machine.mode(Node::B));
+    let modes = mixed(mode_number(a), mode_number(b));
+    let pages = if is_migrating(a, b) {
+        mixed_places(modes, machine)
+    } else {
+        modes
+    };
+    let txns = mixed_txns(pages, machine);
     let commits = mixed_commits(txns, machine.commits());
     mixed_node(mixed_node(commits, machine, Node::A), machine, Node::B)
 }
 
-/// With where each page is, and its rows.
-fn mixed_pages(digest: u64, machine: &Machine) -> u64 {
+/// Whether pages may be at both nodes, or on their way.
+fn is_migrating(a: NodeMode, b: NodeMode) -> bool {
+    a != NodeMode::Empty && b != NodeMode::Empty
+}
+
+/// With where each page is.
+fn mixed_places(digest: u64, machine: &Machine) -> u64 {
     let mut digest = digest;
     for p in 0..machine.page_count() {
-        if let Some((place, page)) = machine.located(p) {
-            digest = mixed(mixed(digest, place_number(place)), u64::from(page.low()));
-            digest = mixed_rows(digest, page.rows());
+        if let Some((place, _)) = machine.located(p) {
+            digest = mixed(digest, place_number(place));
         }
     }
     digest
@@ -63,9 +70,12 @@ fn mixed_rows(digest: u64, rows: &[Row]) -> u64 {
     digest
 }
 
-/// With a transaction.
+/// With a transaction. Of one that has ended the commits, or the reason of its abort, say enough.
 fn mixed_txn(digest: u64, txn: &Txn) -> u64 {
     let mut digest = mixed_status(digest, txn.status());
+    if !txn.is_active() {
+        return digest;
+    }
     digest = mixed(digest, node_number(txn.node()));
     digest = mixed(mixed(digest, u64::from(txn.pc())), u64::from(txn.done()));
     for r in txn.regs() {

@@ -1,14 +1,16 @@
 //! What the next lines and missing steps lead to where a path leads.
 ghost use Rattle.std.specs.Prelude.{◌≡◌, IfOk, OnOk, true};
-ghost use Rattle.zy_order.specs.Reaches.{IsMet, AreMet, FollowsAll, IsFollowed, IsAt, IsDue, StandsAt, Adds};
+ghost use Rattle.zy_order.specs.Machines.{IsPlaced};
+ghost use Rattle.zy_order.specs.Reaches.{cursors_at, IsMet, AreMet, FollowsAll, IsComplete, IsFollowed, IsAt, IsDue, StandsAt, Adds};
 
 use crate::line::Met;
+use crate::placed_machine::PlacedMachine;
 use crate::plan::Plan;
 use crate::search::{Position, Search};
 use crate::turns::turns_by;
 use crate::walk::go_to;
-use zy_isa::{Actor, MAX_CHOICES};
-use zy_machine::{Fault, Machine};
+use zy_isa::Actor;
+use zy_machine::Fault;
 
 impl Search {
     /// Meets the next line of an actor at a position. It answers no where there is no room for what it leads to.
@@ -59,33 +61,33 @@ impl Search {
         self.meet_each(here)
     }
 
-    /// Brings a machine to where the path at a place leads, with room in its history for one choice more.
-    fn arrive(&mut self, plan: &Plan, at: u32, machine: &mut Machine) -> Result<(), Fault>
-        requires { IsDue plan.now self.old at machine.old }
-        ensures adds { OnOk result (Adds plan.now self.old self.new) }
-        ensures there { OnOk result (StandsAt plan.now self.new at machine.new) }
-    {
-        if self.recent.take(at, machine) && machine.len() < MAX_CHOICES {
-            return Ok(());
-        }
-        go_to(plan, &self.reached, at, machine)
-    }
-
-    /// Follows the steps that go on from where the path at a place leads: one line alone, if that may be, and else all
-    /// of them. It answers no where there is no room for what one of them leads to. The machine is a scratch machine.
-    pub(crate) fn expand(
+    /// Brings a machine to where the path at a place leads.
+    pub(crate) fn arrive(
         &mut self,
         plan: &Plan,
         at: u32,
-        machine: &mut Machine,
-    ) -> Result<bool, Fault>
+        machine: &mut PlacedMachine,
+    ) -> Result<(), Fault>
         requires { IsDue plan.now self.old at machine.old }
-        ensures adds { OnOk result (Adds plan.now self.old self.new) }
-        ensures followed { IfOk result (λ b. b ≡ true → IsFollowed plan.now.start plan.now.logs self.new.reached at) }
-        ensures machine { OnOk result (machine.new.scenario ≡ plan.now.start.scenario) }
+        ensures reached { OnOk result (self.new.reached ≡ self.old.reached) }
+        ensures there { OnOk result (StandsAt plan.now self.new at machine.new.machine) }
+        ensures placed { OnOk result (IsPlaced plan.now.start self.new.reached.visited machine.new) }
     {
-        self.arrive(plan, at, machine)?;
-        let here = Position { plan, at, machine };
+        self.recent.take(at, machine);
+        let checkpoints = &mut self.recent.checkpoints;
+        go_to(plan, &self.reached, checkpoints, at, machine)?;
+        checkpoints.pass(plan.alloc, at, &machine.machine)?;
+        Ok(())
+    }
+
+    /// Follows the steps that go on from a position: one line alone, if that may be, and else all of them. It answers no where
+    /// there is no room for what one of them leads to.
+    pub(crate) fn expand(&mut self, here: Position) -> Result<bool, Fault>
+        requires at { IsAt here self.old }
+        requires part { IsComplete here.plan.now (cursors_at self.old.reached here.at) here.machine.now.state → ⊥ }
+        ensures adds { OnOk result (Adds here.entry.plan.now self.old self.new) }
+        ensures followed { IfOk result (λ b. b ≡ true → IsFollowed here.entry.plan.now self.new.reached here.entry.at) }
+    {
         match self.follow_alone(here)? {
             Met::Known => Ok(true),
             Met::Spent => Ok(false),

@@ -1,20 +1,25 @@
 //! The paths are followed, one after another, depth first.
 ghost use Rattle.std.specs.Prelude.{◌≡◌, ◌<◌, IfOk, OnOk, length};
 ghost use Rattle.zy_order.specs.declared.plan.Plan.{Plan as APlan};
-ghost use Rattle.zy_order.specs.Reaches.{AreFollowedBut, Follows, IsReached, IsTaken, IsUnderWay, Settles};
+ghost use Rattle.std.specs.Bool.{Decides};
+ghost use Rattle.zy_order.specs.Machines.{IsPlaced};
+ghost use Rattle.zy_order.specs.Reaches.{AreFollowedBut, Follows, IsComplete, IsReached, IsTaken, IsUnderWay, Settles};
 
+use crate::cursors::Cursors;
+use crate::end::has_end;
+use crate::placed_machine::PlacedMachine;
 use crate::plan::Plan;
 use crate::reached::Reached;
-use crate::search::Search;
+use crate::search::{Position, Search};
 use zy_machine::{Fault, Machine};
 use zy_search::watch::Watch;
 
 /// What came of following the paths.
 #[derive(Clone, Copy)]
 pub(crate) enum Followed {
-    /// The path at this place matches all lines.
+    /// The path at this place is an order with the end that is asked for.
     Whole(u32),
-    /// None does, and none is left to follow.
+    /// None is, and none is left to follow.
     Nowhere,
     /// There is one state too many.
     Spent,
@@ -24,8 +29,8 @@ pub(crate) enum Followed {
 fn next_of(reached: &mut Reached) -> Option<u32>
     ensures paths { reached.new.visited ≡ reached.old.visited }
     ensures reached { (p : APlan) → IsReached p reached.old → IsReached p reached.new }
-    ensures taken { (p : APlan) → IsReached p reached.old
-        → AreFollowedBut p.start p.logs reached.old reached.old.todo.items → IsTaken p reached.new result }
+    ensures taken { (p : APlan) → IsReached p reached.old → AreFollowedBut p reached.old reached.old.todo.items
+        → IsTaken p reached.new result }
 {
     reached.todo.pop()
 }
@@ -43,17 +48,24 @@ fn report_to<W: Watch>(watch: &mut W, reached: &Reached, turn: u32, at: u32)
     }
 }
 
+/// Whether a path to these cursors, where a machine is, is an order with the end that is asked for.
+fn is_complete(plan: &Plan, cursors: Cursors, machine: &Machine) -> bool
+    ensures { Decides result (IsComplete plan.now cursors machine.now.state) }
+{
+    plan.logs.are_matched(cursors) && has_end(plan.end, machine)
+}
+
 impl Search {
-    /// Follows the paths that are to do, the last one first, and those that are added on the way, until one matches all
-    /// lines or none is left. The machine is a scratch machine.
+    /// Follows the paths that are to do, the last one first, and those that are added on the way, until one is an order with
+    /// the end that is asked for or none is left. The machine is a scratch machine.
     fn follow<W: Watch>(
         &mut self,
         plan: &Plan,
-        machine: &mut Machine,
+        machine: &mut PlacedMachine,
         watch: &mut W,
     ) -> Result<Followed, Fault>
         requires follows { Follows plan.now self.old }
-        requires machine { machine.old.scenario ≡ plan.now.start.scenario }
+        requires machine { IsPlaced plan.now.start self.old.reached.visited machine.old }
         ensures under_way { OnOk result (IsUnderWay plan.now self.new.reached) }
         ensures settles { IfOk result (Settles plan.now self.new.reached) }
     {
@@ -62,11 +74,17 @@ impl Search {
             let Some(at) = next_of(&mut self.reached) else {
                 return Ok(Followed::Nowhere);
             };
-            if plan.logs.are_matched(self.reached.cursors_at(at)) {
+            report_to(watch, &self.reached, turn, at);
+            self.arrive(plan, at, machine)?;
+            let here = Position {
+                plan,
+                at,
+                machine: &machine.machine,
+            };
+            if is_complete(plan, self.reached.cursors_at(at), here.machine) {
                 return Ok(Followed::Whole(at));
             }
-            report_to(watch, &self.reached, turn, at);
-            if !self.expand(plan, at, machine)? {
+            if !self.expand(here)? {
                 return Ok(Followed::Spent);
             }
         }
@@ -83,9 +101,9 @@ impl Search {
         ensures under_way { OnOk result (IsUnderWay plan.now self.new.reached) }
         ensures settles { IfOk result (Settles plan.now self.new.reached) }
     {
-        let mut machine = plan.start.copy(plan.alloc)?;
+        let mut machine = PlacedMachine::copy_of(plan.alloc, &plan.start)?;
         let followed = self.follow(plan, &mut machine, watch);
-        machine.discard();
+        drop(machine);
         followed
     }
 }

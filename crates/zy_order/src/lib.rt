@@ -4,8 +4,10 @@
 mod alone;
 pub mod answer;
 mod attempt;
+mod checkpoints;
 mod cursors;
 mod digest;
+pub mod end;
 mod expand;
 mod follow;
 pub mod gaps;
@@ -14,6 +16,7 @@ mod logs;
 mod missing;
 mod note;
 pub mod order;
+mod placed_machine;
 mod plan;
 mod reached;
 mod recent_machines;
@@ -23,6 +26,7 @@ mod visited;
 mod walk;
 
 pub use crate::answer::{OrderAnswer, OrderReport, Taken};
+pub use crate::end::End;
 pub use crate::gaps::Gaps;
 pub use zy_logs::LogLine;
 pub use zy_search::Watch;

@@ -1,10 +1,11 @@
 //! The logs of the three actors.
-ghost use Rattle.std.specs.Prelude.{◌≡◌, ◌≤◌, IfOk, MatchOption, Some, length, slice_get};
+ghost use Rattle.std.specs.Prelude.{◌≡◌, ◌≤◌, IfOk, MatchOption, Some, true, length, slice_get};
 ghost use Rattle.std.specs.Bool.{Decides};
 ghost use Rattle.zy_order.specs.Orders as orders;
 ghost use Rattle.zy_order.specs.Gaps.{gaps_of};
 ghost use Rattle.zy_order.specs.Ways as spec;
 ghost use Rattle.zy_order.specs.Ways.{log_of, cursor, AreLogs, AreMatched};
+ghost use Rattle.zy_isa.specs.declared.node.Actor.{Actor as AnActor};
 ghost use Rattle.zy_threads.specs.Turns as turns;
 
 use crate::cursors::Cursors;
@@ -95,6 +96,15 @@ impl Logs {
         ensures { Decides result (spec.HasGap actor self.now cursors) }
     {
         cursors.of(actor).missing < self.gap_at(cursors, actor)
+    }
+
+    /// Whether no actor may have made one step more that its log lacks. Where it answers yes none may have.
+    pub(crate) fn has_no_gap(&self, cursors: Cursors) -> bool
+        ensures { result ≡ true → (x : AnActor) → spec.HasGap x self.now cursors → ⊥ }
+    {
+        !self.has_gap(cursors, Actor::C)
+            && !self.has_gap(cursors, Actor::A)
+            && !self.has_gap(cursors, Actor::B)
     }
 
     /// Whether all lines are matched.

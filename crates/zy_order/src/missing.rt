@@ -38,6 +38,9 @@ impl Search {
         ensures tried { let p = here.entry.plan.now in
             IfOk result (λ b. b ≡ true → AreTried p.start p.logs self.new.reached here.entry.at) }
     {
+        if here.plan.logs.has_no_gap(self.reached.cursors_at(here.at)) {
+            return Ok(true);
+        }
         for i in 0..here.plan.choices.len() {
             if !self.try_one(here, here.plan.choices[i])? {
                 return Ok(false);

@@ -36,8 +36,15 @@ impl Search {
         if let Some(same) = self.recent.compares(at, &self.twin) {
             return Ok(same);
         }
-        go_to(plan, &self.reached, at, &mut self.recent.spare)?;
-        Ok(self.recent.spare.is_same(&self.twin))
+        let recent = &mut self.recent;
+        go_to(
+            plan,
+            &self.reached,
+            &recent.checkpoints,
+            at,
+            &mut recent.spare,
+        )?;
+        Ok(recent.spare.machine.is_same(&self.twin))
     }
 
     /// Whether the path that is put under a digest leads to the twin's state, with these cursors.

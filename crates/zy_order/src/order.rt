@@ -1,14 +1,15 @@
 //! The search for an order.
-ghost use Rattle.std.specs.Prelude.{◌≡◌, ◌<◌, ◌^◌, IfOk, length};
+ghost use Rattle.std.specs.Prelude.{◌≡◌, ◌<◌, ◌^◌, ℕ, IfOk, MatchOption, length};
 ghost use Rattle.zy_machine.specs.Histories.{IsReplay};
 ghost use Rattle.zy_search.specs.Choices.{considered};
 ghost use Rattle.zy_order.specs.Reaches as spec;
 ghost use Rattle.zy_order.specs.Answers.{IsInput, IsAnswer};
 ghost use Rattle.zy_order.specs.Ways.{AreLogs, AreMatched};
-ghost use Rattle.zy_order.specs.Reaches.{cursors_at, Follows, IsFurthestPath, IsPlan, IsUnderWay, Settles, AnswersFor};
+ghost use Rattle.zy_order.specs.Reaches.{cursors_at, Follows, IsCompleteAt, IsFurthestPath, IsPlan, IsUnderWay, Settles, AnswersFor};
 
 use crate::answer::{OrderAnswer, OrderReport, Taken};
 use crate::cursors::Cursors;
+use crate::end::End;
 use crate::follow::Followed;
 use crate::gaps::Gaps;
 use crate::logs::Logs;
@@ -56,11 +57,26 @@ fn report_of(reached: &Reached, at: u32, answer: OrderAnswer) -> OrderReport
     }
 }
 
-/// The report where the path at a place matches all lines.
+/// The place of a path that matches all lines, if one does.
+fn matched(plan: &Plan, reached: &Reached) -> Option<u32>
+    requires few { length reached.now.cursors.items < 2 ^ 32 }
+    ensures { MatchOption result
+        ((i : ℕ) → i < length reached.now.cursors.items → AreMatched plan.now.logs (cursors_at reached.now i) → ⊥)
+        (λ at. (at < length reached.now.cursors.items) × AreMatched plan.now.logs (cursors_at reached.now at)) }
+{
+    for i in 0..reached.cursors.len() as u32 {
+        if plan.logs.are_matched(reached.cursors_at(i)) {
+            return Some(i);
+        }
+    }
+    None
+}
+
+/// The report where the path at a place is an order with the end that is asked for.
 fn found(plan: &Plan, reached: &Reached, at: u32) -> Result<OrderReport, Fault>
     requires under_way { IsUnderWay plan.now reached.now }
     requires there { at < length reached.now.visited }
-    requires whole { AreMatched plan.now.logs (cursors_at reached.now at) }
+    requires complete { IsCompleteAt plan.now reached.now at }
     ensures { IfOk result (λ r. AnswersFor plan.now r.answer) }
 {
     let path = reached.path(plan.alloc, at)?;
@@ -71,11 +87,36 @@ fn found(plan: &Plan, reached: &Reached, at: u32) -> Result<OrderReport, Fault>
 fn nowhere(plan: &Plan, reached: &Reached) -> Result<OrderReport, Fault>
     requires under_way { IsUnderWay plan.now reached.now }
     requires followed { Settles plan.now reached.now Followed.Nowhere }
+    requires none { (i : ℕ) → i < length reached.now.cursors.items → AreMatched plan.now.logs (cursors_at reached.now i) → ⊥ }
     ensures { IfOk result (λ r. AnswersFor plan.now r.answer) }
 {
     let at = furthest(reached);
     let path = reached.path(plan.alloc, at)?;
     Ok(report_of(reached, at, OrderAnswer::Nowhere(path)))
+}
+
+/// The report where each path was followed, none has the end that is asked for, and the one at a place matches all lines.
+fn other_end(plan: &Plan, reached: &Reached, at: u32) -> Result<OrderReport, Fault>
+    requires under_way { IsUnderWay plan.now reached.now }
+    requires followed { Settles plan.now reached.now Followed.Nowhere }
+    requires there { at < length reached.now.cursors.items }
+    requires matched { AreMatched plan.now.logs (cursors_at reached.now at) }
+    ensures { IfOk result (λ r. AnswersFor plan.now r.answer) }
+{
+    let path = reached.path(plan.alloc, at)?;
+    Ok(report_of(reached, at, OrderAnswer::OtherEnd(path)))
+}
+
+/// The report where each path was followed, and none is an order with the end that is asked for.
+fn none(plan: &Plan, reached: &Reached) -> Result<OrderReport, Fault>
+    requires under_way { IsUnderWay plan.now reached.now }
+    requires followed { Settles plan.now reached.now Followed.Nowhere }
+    ensures { IfOk result (λ r. AnswersFor plan.now r.answer) }
+{
+    match matched(plan, reached) {
+        Some(at) => other_end(plan, reached, at),
+        None => nowhere(plan, reached),
+    }
 }
 
 /// The report where there is one state too many.
@@ -96,7 +137,7 @@ fn report_on(plan: &Plan, reached: &Reached, followed: Followed) -> Result<Order
 {
     match followed {
         Followed::Whole(at) => found(plan, reached, at),
-        Followed::Nowhere => nowhere(plan, reached),
+        Followed::Nowhere => none(plan, reached),
         Followed::Spent => spent(plan, reached),
     }
 }
@@ -167,12 +208,14 @@ fn plan_from(
     start: &Machine,
     lines: &[LogLine],
     gaps: Gaps,
+    end: End,
     most: u32,
 ) -> Result<Plan, Fault>
     requires { IsInput start.now lines.now gaps }
     ensures plan { IfOk result IsPlan }
     ensures start { IfOk result (λ p. p.start ≡ start.now) }
     ensures logs { IfOk result (λ p. AreLogs lines.now gaps p.logs) }
+    ensures end { IfOk result (λ p. p.end ≡ end) }
 {
     let logs = Logs::split(alloc, lines, gaps)?;
     match start_from(alloc, start) {
@@ -180,6 +223,7 @@ fn plan_from(
             alloc,
             start,
             logs,
+            end,
             choices,
             most,
         }),
@@ -193,20 +237,21 @@ fn plan_from(
 /// Looks for an order of the lines of three logs, one for each actor, and of steps that are missing from the logs, in
 /// which each line agrees with what comes of its choice, where the choices are made from a machine's state. The logs
 /// are mixed in any way: only the order of each actor's own lines counts. The gaps say how many steps may be missing,
-/// and where. The search goes depth first, and gives up where it would reach more states than `most`. The watch learns
-/// how far it is.
+/// and where; the end says what is asked of the last state. The search goes depth first, and gives up where it would
+/// reach more states than `most`. The watch learns how far it is.
 pub fn order<W: Watch>(
     alloc: Global,
     start: &Machine,
     lines: &[LogLine],
     gaps: Gaps,
+    end: End,
     most: u32,
     watch: &mut W,
 ) -> Result<OrderReport, Fault>
     requires { IsInput start.now lines.now gaps }
-    ensures { IfOk result (λ r. IsAnswer start.now lines.now gaps r.answer) }
+    ensures { IfOk result (λ r. IsAnswer start.now lines.now gaps end r.answer) }
 {
-    let plan = plan_from(alloc, start, lines, gaps, most)?;
+    let plan = plan_from(alloc, start, lines, gaps, end, most)?;
     let report = report(&plan, watch);
     plan.start.discard();
     report

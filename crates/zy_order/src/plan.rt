@@ -1,5 +1,6 @@
 //! What a search goes by.
 
+use crate::end::End;
 use crate::logs::Logs;
 use std::alloc::Global;
 use zy_isa::Choice;
@@ -14,6 +15,8 @@ pub(crate) struct Plan {
     pub start: Machine,
     /// The logs.
     pub logs: Logs,
+    /// What is asked of the last state of an order.
+    pub end: End,
     /// All choices of the scenario.
     pub choices: Vec<Choice>,
     /// The most states that it may reach, with that of the start.

@@ -1,5 +1,5 @@
 //! What a search holds.
-ghost use Rattle.std.specs.Prelude.{◌≡◌, [], IfOk};
+ghost use Rattle.std.specs.Prelude.{◌≡◌, [], IfOk, None};
 ghost use Rattle.zy_order.specs.Reaches.{Follows, IsPlan};
 
 use crate::cursors::Cursors;
@@ -7,11 +7,7 @@ use crate::note::digest_of;
 use crate::plan::Plan;
 use crate::reached::Reached;
 use crate::recent_machines::RecentMachines;
-use zy_isa::MAX_CHOICES;
 use zy_machine::{Fault, Machine};
-
-/// How many machines are kept where the last paths lead.
-const MOST_MACHINES: usize = 64;
 
 /// What a search holds: the paths that it has reached, and machines to go on by.
 #[derive(Drop)]
@@ -39,10 +35,11 @@ pub(crate) struct Position<'a> {
 fn machines_of(plan: &Plan) -> Result<(Machine, RecentMachines), Fault>
     ensures twin { IfOk result (λ r. r.0 ≡ plan.now.start) }
     ensures machines { IfOk result (λ r. r.1.machines.items ≡ []) }
-    ensures spare { IfOk result (λ r. r.1.spare ≡ plan.now.start) }
+    ensures checkpoints { IfOk result (λ r. r.1.checkpoints.points.items ≡ []) }
+    ensures spare { IfOk result (λ r. r.1.spare ≡ record { machine = plan.now.start; at = None }) }
 {
     let twin = plan.start.copy(plan.alloc)?;
-    match RecentMachines::sized(plan.alloc, &plan.start, MOST_MACHINES, MAX_CHOICES) {
+    match RecentMachines::new(plan.alloc, &plan.start) {
         Ok(recent) => Ok((twin, recent)),
         Err(fault) => {
             twin.discard();

@@ -31,7 +31,7 @@ use Rattle.zy_order_engine.specs.Missing.{AreGapsIn}
 
 -- what was written of it, where a call failed, is a part of it
 pub wrote_failed : (o : OrderOptions) (sc : Scenario) (lines : List NumberedLine) (gaps : Gaps) (a : OrderAnswer) (old new : Sent)
-    (f : TextFault) → AreGapsIn o.gap lines gaps → IsAnswer (history_of None sc) (steps lines) gaps a
+    (f : TextFault) → AreGapsIn o.gap lines gaps → IsAnswer (history_of None sc) (steps lines) gaps o.end a
     → WroteSome {X = Unit {0}} (IsTextOf o.wording sc a) old new (Err f)
     → WroteOrder (IsAnswerOf o sc lines) old new (Err f)
 wrote_failed o sc lines gaps a old new Write are is wrote =

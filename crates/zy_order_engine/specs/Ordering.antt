@@ -106,6 +106,7 @@ pub record CanFollow (h : History) (gap : ℕ) (lines : List NumberedLine) : Typ
 -- a text of an answer: of the scenario with the choices of an order behind its own, or nothing
 abbrev pub IsTextOf : Wording → Scenario → OrderAnswer → List ℕ → Type 0
 IsTextOf w sc (answer.Found v) text = IsWorded w (reordered sc (sc.choices ++ v.items)) text
+IsTextOf w sc (answer.OtherEnd v) text = text ≡ []
 IsTextOf w sc (answer.Nowhere v) text = text ≡ []
 IsTextOf w sc (answer.Spent v) text = text ≡ []
 
@@ -113,7 +114,7 @@ IsTextOf w sc (answer.Spent v) text = text ≡ []
 pub record IsAnswerOf (o : OrderOptions) (sc : Scenario) (lines : List NumberedLine) (a : OrderAnswer) (text : List ℕ) : Type 0 where
   pub gaps : Gaps
   pub are : AreGapsIn o.gap lines gaps
-  pub answer : IsAnswer (history_of None sc) (steps lines) gaps a
+  pub answer : IsAnswer (history_of None sc) (steps lines) gaps o.end a
   pub is : IsTextOf o.wording sc a text
 
 -- an answer for the scenario and the logs that an input means, and a text of it

@@ -2,6 +2,7 @@
 
 use crate::log_format::LogFormat;
 use zy_engine::Wording;
+use zy_order::End;
 
 /// What an order is looked for by.
 #[derive(Clone, Copy)]
@@ -12,6 +13,8 @@ pub struct OrderOptions {
     pub logs: LogFormat,
     /// The most steps that a gap of a log stands for.
     pub gap: u16,
+    /// What is asked of the last state of an order.
+    pub end: End,
     /// The most states that may be reached.
     pub most: u32,
 }

@@ -39,6 +39,7 @@ fn write_answer<K: Sink>(
 {
     match answer {
         OrderAnswer::Found(path) => write_found(alloc, wording, text, machine, path, sink),
+        OrderAnswer::OtherEnd(_) => Ok(()),
         OrderAnswer::Nowhere(_) => Ok(()),
         OrderAnswer::Spent(_) => Ok(()),
     }
@@ -79,7 +80,15 @@ fn order_from<K: Sink, W: Watch>(
 {
     let steps = steps(alloc, run.lines)?;
     let gaps = gaps(alloc, options.gap, run.lines)?;
-    let report = order(alloc, run.machine, &steps, gaps, options.most, watch)?;
+    let report = order(
+        alloc,
+        run.machine,
+        &steps,
+        gaps,
+        options.end,
+        options.most,
+        watch,
+    )?;
     write_answer(
         alloc,
         options.wording,

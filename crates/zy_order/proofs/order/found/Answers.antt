@@ -11,5 +11,5 @@ returns c =
     rw (c.report_of.ensures, c.in_ok-path.ensures) (
       cursors_at c.args.reached.now c.args.at,
       c.requires.under_way.reached.ways c.args.at c.requires.there,
-      c.requires.whole,
+      c.requires.complete,
     )

@@ -8,5 +8,5 @@ returns c =
     rw (c.report_of.ensures, c.in_ok-path.ensures) (
       cursors_at c.args.reached.now c.furthest-at.result,
       furthest_way c.args.plan.now c.args.reached.now c.furthest-at.result c.requires.under_way.plan c.requires.under_way.reached c.furthest-at.ensures.there
-          c.furthest-at.ensures.best c.requires.followed,
+          c.furthest-at.ensures.best c.requires.followed c.requires.none,
     )

@@ -42,8 +42,8 @@ returns-in_err-write_answer g c =
     let a = c.in_ok-report.report.answer in
     let fault = c.in_err-write_answer.field-0.0 in
     let lines = c.deref.ensures.value ∙ c.in_ok-steps.ensures in
-    let is = subst (λ (h : History). IsAnswer h (steps numbered) gaps a) c.requires.ran
-    (subst (λ (ls : List LogLine). IsAnswer c.args.run.machine.now ls gaps a) lines c.in_ok-report.ensures) in
+    let is = subst (λ (h : History). IsAnswer h (steps numbered) gaps o.end a) c.requires.ran
+    (subst (λ (ls : List LogLine). IsAnswer c.args.run.machine.now ls gaps o.end a) lines c.in_ok-report.ensures) in
     let wrote = c.in_err-write_answer.ensures in
     let p = err_from_is_err_and c.from_residual-in_err-write_answer.result c.from_residual-in_err-write_answer.ensures.1 in
     rw (p.1, p.2) (wrote_failed o c.args.run.machine.now.scenario numbered gaps a old new fault c.in_ok-gaps.ensures is wrote)
@@ -57,8 +57,8 @@ returns g c =
     let gaps = c.in_ok-gaps.gaps in
     let a = c.in_ok-report.report.answer in
     let lines = c.deref.ensures.value ∙ c.in_ok-steps.ensures in
-    let is = subst (λ (h : History). IsAnswer h (steps numbered) gaps a) c.requires.ran
-    (subst (λ (ls : List LogLine). IsAnswer c.args.run.machine.now ls gaps a) lines c.in_ok-report.ensures) in
+    let is = subst (λ (h : History). IsAnswer h (steps numbered) gaps o.end a) c.requires.ran
+    (subst (λ (ls : List LogLine). IsAnswer c.args.run.machine.now ls gaps o.end a) lines c.in_ok-report.ensures) in
     let wrote = c.in_ok-write_answer.ensures in (
       (
         wrote.text,

@@ -1,52 +1,41 @@
--- A run that did is followed alone, or all steps are.
-use Rattle.std.proofs.Common.{◌≡◌, Bool, true, inl, inr}
-use Rattle.zy_order.specs.Reaches.{Adds, FollowsAll, IsFollowed}
-use Rattle.zy_order.proofs.PushLemmas.{adds_on, adds_then, stands_on}
+-- A line is followed alone, or all steps are.
+use Rattle.std.proofs.Common.{◌≡◌, Bool, true, inl, inr, subst, sym}
+use Rattle.zy_order.specs.Reaches.{cursors_at, Adds, FollowsAll, IsComplete, IsFollowed}
+use Rattle.zy_order.proofs.PushLemmas.{adds_then, stands_on}
 use Rattle.zy_order.proofs.ReachLemmas.{extends_on}
 use Rattle.zy_order.proofs.LoopLemmas.{if_ok, is_followed}
 use Rattle.zy_order.proofs.search.Search.expand.Goals as goal
 
-pub returns-in-Known-clause-adds : goal.returns-in-Known-clause-adds
-returns-in-Known-clause-adds c =
-    adds_on c.args.plan.now c.args.self.now c.arrive.new.self c.follow_alone.new.self c.in_ok-arrive.ensures.adds c.in_ok-follow_alone.ensures.adds
-
 pub returns-in-Known-clause-followed : goal.returns-in-Known-clause-followed
 returns-in-Known-clause-followed c = λ _.
-    let p = c.args.plan.now in
-    let old = c.args.self.now in
-    let new = c.follow_alone.new.self in
-    let adds = adds_on p old c.arrive.new.self new c.in_ok-arrive.ensures.adds c.in_ok-follow_alone.ensures.adds in
-    is_followed p.start p.logs old.reached new.reached c.args.at c.requires.there adds.extends c.requires.part
+    let p = c.args.here.plan.now in
+    let at = c.requires.at in
+    let adds = c.in_ok-follow_alone.ensures.adds in
+    is_followed p c.args.self.now.reached c.follow_alone.new.self.reached c.args.here.at at.there adds.extends
+    (λ end. c.requires.part (subst (IsComplete p (cursors_at c.args.self.now.reached c.args.here.at)) (sym at.machine.state) end))
     (inr (c.in_ok-follow_alone.ensures.alone c.in-Known.is))
-
-pub returns-in-Spent-clause-adds : goal.returns-in-Spent-clause-adds
-returns-in-Spent-clause-adds c =
-    adds_on c.args.plan.now c.args.self.now c.arrive.new.self c.follow_alone.new.self c.in_ok-arrive.ensures.adds c.in_ok-follow_alone.ensures.adds
 
 pub follow_each-requires : goal.follow_each-requires
 follow_each-requires c =
-    stands_on c.args.plan.now c.arrive.new.self c.follow_alone.new.self c.args.at c.arrive.new.machine c.in_ok-follow_alone.ensures.adds
-    c.in_ok-arrive.ensures.there
+    let here = c.args.here in
+    stands_on here.plan.now c.args.self.now c.follow_alone.new.self here.at here.machine.now c.in_ok-follow_alone.ensures.adds c.requires.at
 
 pub returns-in-Unfit-clause-adds : goal.returns-in-Unfit-clause-adds
 returns-in-Unfit-clause-adds c =
-    let p = c.args.plan.now in
-    let old = c.args.self.now in
-    let mid = c.follow_alone.new.self in
-    adds_then p old mid c.follow_each.new.self c.follow_each.result
-    (adds_on p old c.arrive.new.self mid c.in_ok-arrive.ensures.adds c.in_ok-follow_alone.ensures.adds) c.follow_each.ensures.adds
+    adds_then c.args.here.plan.now c.args.self.now c.follow_alone.new.self c.follow_each.new.self c.follow_each.result
+    c.in_ok-follow_alone.ensures.adds c.follow_each.ensures.adds
 
 pub returns-in-Unfit-clause-followed : goal.returns-in-Unfit-clause-followed
 returns-in-Unfit-clause-followed c =
-    let p = c.args.plan.now in
-    let h = p.start in
-    let at = c.args.at in
+    let p = c.args.here.plan.now in
+    let at = c.requires.at in
+    let i = c.args.here.at in
     let old = c.args.self.now in
     let mid = c.follow_alone.new.self in
     let new = c.follow_each.new.self in
-    let adds = adds_on p old c.arrive.new.self mid c.in_ok-arrive.ensures.adds c.in_ok-follow_alone.ensures.adds in
-    if_ok (Adds p mid new) (λ (b : Bool). b ≡ true → FollowsAll h p.logs new.reached at)
-    (λ (b : Bool). b ≡ true → IsFollowed h p.logs new.reached at) c.follow_each.result
-    (λ b more all e. is_followed h p.logs old.reached new.reached at c.requires.there
-    (extends_on old.reached mid.reached new.reached adds.extends more.extends) c.requires.part (inl (all e)))
+    if_ok (Adds p mid new) (λ (b : Bool). b ≡ true → FollowsAll p.start p.logs new.reached i)
+    (λ (b : Bool). b ≡ true → IsFollowed p new.reached i) c.follow_each.result
+    (λ b more all e. is_followed p old.reached new.reached i at.there
+    (extends_on old.reached mid.reached new.reached c.in_ok-follow_alone.ensures.adds.extends more.extends)
+    (λ end. c.requires.part (subst (IsComplete p (cursors_at old.reached i)) (sym at.machine.state) end)) (inl (all e)))
     c.follow_each.ensures.adds c.follow_each.ensures.followed

@@ -1,14 +1,16 @@
 -- The line fits and where it leads is known, or it does not fit.
-use Rattle.std.proofs.Common.{◌∙◌, ◌<◌, refl, sym, ap, subst}
+use Rattle.std.proofs.Common.{◌∙◌, ◌<◌, refl, sym, ap, subst, arith}
 use Rattle.std.proofs.Math.Bool.{false≢true}
 use Rattle.std.proofs.lemmas.Option.{slice_get_within}
 use Rattle.zy_order.specs.declared.cursors.Cursors.{Cursors}
 use Rattle.zy_table.specs.declared.entry.Entry.{Entry}
 use Rattle.zy_logs.specs.Agrees.{Agrees}
+use Rattle.zy_search.specs.Visits.{path_at}
 use Rattle.zy_order.specs.Ways.{log_of, cursor, advanced}
 use Rattle.zy_order.specs.Reaches.{cursors_at, entry_by}
 use Rattle.zy_order.proofs.PushLemmas.{adds_on, adds_twin, entry_here, goes_on, line_leads}
 use Rattle.zy_order.proofs.ReachLemmas.{line_few, leads_by, unfit_by}
+use Rattle.zy_order.proofs.WayLemmas.{next_part, way_fewer}
 use Rattle.zy_order.proofs.search.Search.meet_line.Goals as goal
 
 pub attempt-requires-clause-named : goal.attempt-requires-clause-named
@@ -17,6 +19,16 @@ attempt-requires-clause-named c =
     let x = c.args.actor in
     let g = cursors_at c.args.self.now.reached c.args.here.at in
     rw at.machine.scenario ((at.search.under_way.plan.lines x (cursor x g) c.args.line.now c.requires.next).1)
+
+pub attempt-requires-clause-room : goal.attempt-requires-clause-room
+attempt-requires-clause-room c =
+    let p = c.args.here.plan.now in
+    let at = c.requires.at in
+    let r = c.args.self.now.reached in
+    let g = cursors_at r c.args.here.at in
+    let few = way_fewer p.start.scenario p.logs p.start.state (path_at r.visited c.args.here.at) g at.search.under_way.plan.gaps
+    (at.search.under_way.reached.ways c.args.here.at at.there) (next_part c.args.actor p.logs g c.args.line.now c.requires.next) in
+    omega (arith, at.machine.entries, few, at.search.under_way.plan.room)
 
 pub advanced-cursors-requires : goal.advanced-cursors-requires
 advanced-cursors-requires c =

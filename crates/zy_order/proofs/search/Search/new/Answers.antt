@@ -7,4 +7,4 @@ returns-in-Ok c =
     let r = c.in_ok-reached.ensures in
     let made = c.in-Ok.ensures in
     begins c.args.plan.now (record { reached = c.in_ok-reached.reached; recent = c.in-Ok.recent; twin = c.in-Ok.twin }) c.requires r.paths r.cursors
-    r.todo made.machines made.spare made.twin
+    r.todo made.machines made.checkpoints made.spare made.twin

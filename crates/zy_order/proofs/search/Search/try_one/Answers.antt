@@ -1,6 +1,11 @@
 -- The choice changes nothing, or where it leads is known; or it may not be that of a missing step.
-use Rattle.std.proofs.Common.{◌≡◌, ◌∙◌, Bool, true, ap, subst, sym, inr}
+use Rattle.std.proofs.Common.{◌≡◌, ◌∙◌, ℕ, Bool, true, ap, subst, sym, inr, refl, arith}
+use Rattle.zy_isa.specs.declared.choice.Choice.{Choice}
 use Rattle.zy_isa.specs.declared.node.Actor.{Actor}
+use Rattle.zy_search.specs.Visits.{path_at}
+use Rattle.zy_order.specs.declared.logs.Logs.{Logs}
+use Rattle.zy_order.specs.declared.cursors.Cursors.{Cursors}
+use Rattle.zy_order.specs.declared.reached.Reached.{Reached}
 use Rattle.zy_isa.specs.Choices.{actor_of}
 use Rattle.zy_isa.specs.Scenario.{Scenario}
 use Rattle.zy_table.specs.Play.{step}
@@ -10,7 +15,28 @@ use Rattle.zy_order.specs.Reaches.{cursors_at, state_by, IsKnown, IsTried, Adds}
 use Rattle.zy_order.proofs.LoopLemmas.{if_ok, missing_few, tried_by}
 use Rattle.zy_order.proofs.NeedLemmas.{need_missing}
 use Rattle.zy_order.proofs.PushLemmas.{adds_then, adds_twin, goes_on}
+use Rattle.zy_order.proofs.WayLemmas.{way_room}
 use Rattle.zy_order.proofs.search.Search.try_one.Goals as goal
+
+-- the gap that was found is one of the choice's actor where the path leads
+missing_gap : (r : Reached) (i : ℕ) (c : Choice) (l : Logs) (x : Actor) (g : Cursors) → x ≡ actor_of c → g ≡ cursors_at r i → HasGap x l g
+    → HasGap (actor_of c) l (cursors_at r i)
+missing_gap r i c l x g own at gap = subst (HasGap (actor_of c) l) at (subst (λ (y : Actor). HasGap y l g) own gap)
+
+pub attempt-requires-clause-room : goal.attempt-requires-clause-room
+attempt-requires-clause-room c =
+    let p = c.args.here.plan.now in
+    let h = p.start in
+    let at = c.requires.at in
+    let r = c.args.self.now.reached in
+    let i = c.args.here.at in
+    let g = cursors_at r i in
+    let choice = c.args.choice in
+    let gap = missing_gap c.args.self.now.reached i choice p.logs c.actor-actor.result c.cursors_at-cursors.result c.actor-actor.ensures
+    c.cursors_at-cursors.ensures (c.has_gap.ensures.0 c.if-not-has_gap.false) in
+    let few = way_room h.scenario p.logs h.state (path_at r.visited i) g choice (with_missing (actor_of choice) g) at.search.under_way.plan.gaps
+    (at.search.under_way.reached.ways i at.there) (inr (record { named = c.requires.named; gap = gap }, refl)) in
+    omega (arith, at.machine.entries, few, at.search.under_way.plan.room)
 
 pub with_missing-requires : goal.with_missing-requires
 with_missing-requires c =
@@ -44,9 +70,10 @@ note-requires c =
     let l = here.plan.now.logs in
     let there = c.with_missing.ensures ∙ (ap (λ (x : Actor). with_missing x c.cursors_at-cursors.result) c.actor-actor.ensures
     ∙ ap (with_missing (actor_of choice)) c.cursors_at-cursors.ensures) in
-    let gap = subst (λ (x : Actor). HasGap x l c.cursors_at-cursors.result) c.actor-actor.ensures (c.has_gap.ensures.0 c.if-not-has_gap.false) in
+    let gap = missing_gap s.reached here.at choice l c.actor-actor.result c.cursors_at-cursors.result c.actor-actor.ensures
+    c.cursors_at-cursors.ensures (c.has_gap.ensures.0 c.if-not-has_gap.false) in
     goes_on s here choice c.with_missing.result c.attempt.new.twin c.requires.at e.scenario e.state e.longer
-    (inr (record { named = c.requires.named; gap = subst (HasGap (actor_of choice) l) c.cursors_at-cursors.ensures gap }, there))
+    (inr (record { named = c.requires.named; gap = gap }, there))
 
 pub returns-clause-adds : goal.returns-clause-adds
 returns-clause-adds c =
