@@ -13,7 +13,7 @@ _zy_bench() {
     search) options='--image --for --always --from --kill --without --states --threads --canon --help' ;;
     find) options='--image --for --always --help' ;;
     end) options='--image --canon --help' ;;
-    order) options='--json --gap --states --canon --furthest --help' ;;
+    order) options='--json --gap --settled --states --canon --furthest --help' ;;
     help) options='run asm dis check threads trace debug search find end order' ;;
     *) options='--help' ;;
   esac

@@ -21,7 +21,7 @@ PLURALS = {'start': 'starts', 'begin': 'begins', 'kill': 'kills', 'run': 'runs',
 # What a search adds that has begun behind 4096 choices, where its goal is not judged.
 UNJUDGED = '; stuck, deadlock and then are judged after at most 4095 choices'
 
-STATUS = {'found': 0, 'none': 4, 'spent': 6}
+STATUS = {'found': 0, 'none': 4, 'spent': 6, 'other end': 7}
 
 # What a terminal gets while a search goes on: lines that are written over, the last of which is taken away.
 PROGRESS = r'(\r\d+ states, \d+ choices deep, \d+ states a second\x1b\[K)+\r\x1b\[K'

@@ -11,6 +11,7 @@ from itertools import product
 from math import comb
 
 from case import TOP, content
+from plain_goals import is_over
 from plain_search import considered
 from plain_table import step
 
@@ -175,6 +176,12 @@ def order(scenario, state, all_logs, gap, most, reduced=True):
     found = any(place.made == tuple(map(len, logs)) for place in places)
     best = max(rank(place.made) for place in places)
     return Answer('found' if found else 'none', places, [place for place in places if rank(place.made) == best])
+
+
+def settled_verdict(all_logs, places):
+    """Whether an order of the logs ends settled, by the places that are reached: `found`, `other end` where each order ends otherwise, or `none`."""
+    whole = [place for place in places if place.made == tuple(len(made_of(log)) for log in all_logs)]
+    return 'none' if not whole else 'found' if any(map(is_over, whole)) else 'other end'
 
 
 def fillings(scenario, actor, gap):

@@ -32,7 +32,7 @@ TEXT = {'encoding': 'utf-8', 'errors': 'surrogateescape'}
 LIMIT = 120
 
 # What is said of a round, by the status of `zy_bench order`.
-VERDICTS = {0: 'explained', 1: 'rejected', 4: 'no order', 6: 'gave up'}
+VERDICTS = {0: 'explained', 1: 'rejected', 4: 'no order', 6: 'gave up', 7: 'unsettled'}
 
 # What is said of a round, in one word or two and in lines; the logs; how often a fault made a difference; the seconds of the store and of the answer.
 Round = namedtuple('Round', 'verdict lines logs slips ran asked')
@@ -162,13 +162,14 @@ def add_store(parser):
     parser.add_argument('--keep', metavar='FOLDER', help='where the files of each round stay')
     parser.add_argument('--store', metavar='COMMAND', type=shlex.split, default=STORE, help='another store, in place of store.py')
     parser.add_argument('--gap', metavar='N', type=whole, help='how many steps a gap of a log may stand for, as zy_bench order takes it')
+    parser.add_argument('--settled', action='store_true', help='ask for an order that ends with no migration and no active transaction')
     parser.add_argument('--states', metavar='N', type=whole, help='after how many states zy_bench order gives up')
 
 
 def question(options):
     """The words that ask for an order, with the flags that are given."""
     flags = (('--gap', options.gap), ('--states', options.states))
-    return ['order', *(word for flag, value in flags if value for word in (flag, str(value)))]
+    return ['order', *['--settled'] * options.settled, *(word for flag, value in flags if value for word in (flag, str(value)))]
 
 
 def tested(text):

@@ -24,6 +24,7 @@ pub struct Keeper<'a> {
 fn furthest_of(answer: &OrderAnswer) -> Option<&[Choice]> {
     match answer {
         OrderAnswer::Found(_) => None,
+        OrderAnswer::OtherEnd(order) => Some(order.as_slice()),
         OrderAnswer::Nowhere(order) => Some(order.as_slice()),
         OrderAnswer::Spent(order) => Some(order.as_slice()),
     }

@@ -8,7 +8,7 @@ use std::fmt;
 use std::io::{Read, Write};
 use std::rt::Files;
 use std::time::Clock;
-use zy_cli::exit_status::{DONE, NOWHERE, SPENT};
+use zy_cli::exit_status::{DONE, NOWHERE, OTHER_END, SPENT};
 use zy_cli::request::OrderRequest;
 use zy_engine::BenchFault;
 use zy_engine::format::split_scenario;
@@ -18,6 +18,7 @@ use zy_order::OrderAnswer;
 use zy_order_engine::ordering::order_bytes;
 use zy_order_engine::{LogFormat, OrderFault, OrderedLogs};
 use zy_report::furthest::{Furthest, Steps};
+use zy_report::other_end::tell_unsettled;
 use zy_report::progress::Progress;
 use zy_report::refused_line::RefusedLine;
 use zy_report::refused_object::{RefusedObject, ToldLine};
@@ -153,6 +154,10 @@ fn sum_up<R: Eprint + AllocGlobal>(
             let steps = Steps::of(report.taken, order.len());
             let _ = eprintln!(rt; "zy_bench: found after {states}: an order of {steps}");
             return Ok(DONE);
+        }
+        OrderAnswer::OtherEnd(order) => {
+            tell_unsettled(rt, ordered, order)?;
+            return Ok(OTHER_END);
         }
         OrderAnswer::Nowhere(order) => (order, NOWHERE, "there is no order,", "the furthest takes"),
         OrderAnswer::Spent(order) => (order, SPENT, "gave up", TRIED_TAKES),

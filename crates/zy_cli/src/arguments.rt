@@ -23,6 +23,7 @@ pub enum Argument {
     Threads,
     Canon,
     Gap,
+    Settled,
     Furthest,
     /// The file that is read, and what is read without it.
     File(&'static str),
@@ -139,6 +140,11 @@ impl Argument {
                 "Writes canonical text, without names and comments",
             ),
             Argument::Gap => numbered(alloc, GAP),
+            Argument::Settled => flag(
+                alloc,
+                "settled",
+                "Looks for an order that ends with no migration and no active transaction",
+            ),
             Argument::Furthest => valued(
                 alloc,
                 "furthest",

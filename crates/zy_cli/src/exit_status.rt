@@ -14,3 +14,6 @@ pub const NOWHERE: u8 = 4;
 
 /// The exit status where a search came to no end, and where a scenario has no room for the choices that end its migration.
 pub const SPENT: u8 = 6;
+
+/// The exit status where the logs have orders, and none with the end that is asked for.
+pub const OTHER_END: u8 = 7;

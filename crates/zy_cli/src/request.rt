@@ -4,6 +4,7 @@ use crate::table::command_of;
 use clap::ArgMatches;
 use zy_diagnostics::CommandName;
 use zy_engine::{Format, RunFormat, SearchOptions, SourceFormat, Wording};
+use zy_order::End;
 use zy_order_engine::{LogFormat, OrderOptions};
 use zy_search::ChoiceKinds;
 
@@ -147,9 +148,19 @@ fn order_of<'a>(words: &ArgMatches<'a>) -> OrderRequest<'a> {
             wording: wording_of(words),
             logs: logs_of(words),
             gap: words.get_one("gap").unwrap_or(4),
+            end: end_of(words),
             most: most_of(words),
         },
         furthest: words.get_str("furthest"),
+    }
+}
+
+/// What is asked of the last state of an order.
+fn end_of(words: &ArgMatches<'_>) -> End {
+    if words.get_flag("settled") {
+        End::Settled
+    } else {
+        End::Any
     }
 }
 

@@ -253,7 +253,8 @@ const ORDER: Described = Described {
         "         the furthest that an order comes, with the lines that do not fit there; a fault is one\n",
         "         line there\n",
         "Status:  0 found, 1 the input is rejected, 2 the command line is wrong, 3 out of memory,\n",
-        "         4 there is no order, 5 the input or the output failed, 6 it gave up\n",
+        "         4 there is no order, 5 the input or the output failed, 6 it gave up, 7 each order ends\n",
+        "         otherwise than --settled asks\n",
         "\n",
         "Lines:   CHOICE -> OUTCOME ! KIND, in the words of a listing, where ! KIND is the message that was\n",
         "         sent. CHOICE alone, or CHOICE -> ?, says nothing of what came. Numbers of an outcome may\n",
@@ -267,6 +268,7 @@ const ORDER: Described = Described {
     arguments: &[
         Argument::Json("The lines of the logs are objects of JSON, as run --json writes them"),
         Argument::Gap,
+        Argument::Settled,
         Argument::States,
         Argument::Canon,
         Argument::Furthest,

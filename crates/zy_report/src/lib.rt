@@ -11,6 +11,7 @@ pub mod fault_message;
 pub mod furthest;
 pub mod no_effect;
 pub mod origin;
+pub mod other_end;
 pub mod progress;
 pub mod refused_goal;
 pub mod refused_line;
