@@ -14,7 +14,7 @@ use zy_machine::{Fault, Machine};
 use zy_order::Taken;
 use zy_order_engine::{LogFormat, OrderedLogs};
 use zy_source_words::{Position, SourceLine};
-use zy_table::Entry;
+use zy_table::{Entry, Outcome};
 
 /// How many lines of an actor an order takes.
 fn taken_of(taken: Taken, actor: Actor) -> usize {
@@ -141,31 +141,35 @@ impl<'a> Furthest<'a> {
         Ok(None)
     }
 
-    /// Says on standard error which next lines do not fit, and what the table gives. Where each fits, only lines of the client are
-    /// left, and the first of them that does not fit behind the others is named.
+    /// Says on standard error which next lines do not fit, and what the table gives; last those that may only wait for another.
+    /// Where each fits, only lines of the client are left, and the first of them that does not fit behind the others is named.
     pub fn tell<R: Eprint + AllocGlobal>(&self, rt: &R, file: Option<&str>, input: &[u8]) {
         let mut is_named = false;
-        for actor in [Actor::C, Actor::A, Actor::B] {
-            is_named |= self.tell_next(rt, file, input, actor);
+        for may_wait in [false, true] {
+            for actor in [Actor::C, Actor::A, Actor::B] {
+                is_named |= self.tell_next(rt, file, input, actor, may_wait);
+            }
         }
         if !is_named {
             self.tell_later(rt, file, input);
         }
     }
 
-    /// Says what the table gives in the place of the next line of an actor, and whether there is one that does not fit.
+    /// Says what the table gives in the place of the next line of an actor, and whether there is one that does not fit: one that
+    /// may only wait for another, or one that does not.
     fn tell_next<R: Eprint + AllocGlobal>(
         &self,
         rt: &R,
         file: Option<&str>,
         input: &[u8],
         actor: Actor,
+        may_wait: bool,
     ) -> bool {
         let Some(next) = self.next(actor) else {
             return false;
         };
         match self.instead(rt.alloc(), next.step) {
-            Ok(Some(entry)) => {
+            Ok(Some(entry)) if waits_for_another(entry.outcome) == may_wait => {
                 self.tell_line(rt, file, input, next, &entry);
                 true
             }
@@ -199,9 +203,19 @@ impl<'a> Furthest<'a> {
                 number: line.number,
                 bytes: told_bytes(self.logs, input, line.number),
                 came: behind_arrow(step.as_bytes()),
+                may_wait: waits_for_another(entry.outcome),
             };
             let _ = eprintln!(rt; "{unfit}");
         }
+    }
+}
+
+/// Whether an outcome comes where a step is made before one of another actor: before the message is sent, or the transaction
+/// begins.
+fn waits_for_another(outcome: Outcome) -> bool {
+    match outcome {
+        Outcome::NoMessage | Outcome::NotYet | Outcome::Idle => true,
+        _ => false,
     }
 }
 
@@ -295,6 +309,8 @@ struct Unfit<'a> {
     /// The line, without its comment.
     bytes: &'a [u8],
     came: &'a [u8],
+    /// Whether it may only wait for another line.
+    may_wait: bool,
 }
 
 impl<'a> Unfit<'a> {
@@ -324,6 +340,11 @@ impl fmt::Display for Unfit<'_> {
             f,
             "{}{colon} {told}: the table gives {came} there",
             self.origin()
-        )
+        )?;
+        f.write_str(if self.may_wait {
+            ", perhaps only for want of a line above"
+        } else {
+            ""
+        })
     }
 }
