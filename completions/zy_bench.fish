@@ -19,7 +19,7 @@ complete -c zy_bench -l without -x -d 'Leave out choices of this kind' -n '__fis
 complete -c zy_bench -l canon -d 'Write canonical text' -n '__fish_seen_subcommand_from search end order'
 complete -c zy_bench -l states -x -d 'Look at N states at most' -n '__fish_seen_subcommand_from search order'
 complete -c zy_bench -l gap -x -d 'At most N missing steps for each gap' -n '__fish_seen_subcommand_from order'
-complete -c zy_bench -l settled -d 'Ask for an end without migration and active transactions' -n '__fish_seen_subcommand_from order'
+complete -c zy_bench -l settled -d 'Ask for an end without a migration or an active transaction' -n '__fish_seen_subcommand_from order'
 complete -c zy_bench -l furthest -r -d 'Keep the furthest order' -n '__fish_seen_subcommand_from order'
 complete -c zy_bench -l threads -x -d 'Search by N threads' -n '__fish_seen_subcommand_from search'
 

@@ -162,7 +162,7 @@ def add_store(parser):
     parser.add_argument('--keep', metavar='FOLDER', help='where the files of each round stay')
     parser.add_argument('--store', metavar='COMMAND', type=shlex.split, default=STORE, help='another store, in place of store.py')
     parser.add_argument('--gap', metavar='N', type=whole, help='how many steps a gap of a log may stand for, as zy_bench order takes it')
-    parser.add_argument('--settled', action='store_true', help='ask for an order that ends with no migration and no active transaction')
+    parser.add_argument('--settled', action='store_true', help='ask for an order that ends with no migration, message or active transaction')
     parser.add_argument('--states', metavar='N', type=whole, help='after how many states zy_bench order gives up')
 
 

@@ -20,7 +20,7 @@ pub struct Keeper<'a> {
     pub wording: Wording,
 }
 
-/// The choices of the furthest order that a search reached, if it found no order of all lines.
+/// The choices of the furthest order that a search reached, if it found no order that it was asked for.
 fn furthest_of(answer: &OrderAnswer) -> Option<&[Choice]> {
     match answer {
         OrderAnswer::Found(_) => None,

@@ -14,7 +14,7 @@ use zy_engine::BenchFault;
 use zy_engine::format::split_scenario;
 use zy_io::CountingReader;
 use zy_logs::LogLineFault;
-use zy_order::OrderAnswer;
+use zy_order::{End, OrderAnswer};
 use zy_order_engine::ordering::order_bytes;
 use zy_order_engine::{LogFormat, OrderFault, OrderedLogs};
 use zy_report::furthest::{Furthest, Steps};
@@ -137,7 +137,13 @@ fn kept<R: Eprint + Files + AllocGlobal>(
 }
 
 /// What stands before how far an order comes that may not be the furthest.
-const TRIED_TAKES: &'static str = "no order was found, and the furthest that was tried takes";
+fn tried_by(end: End) -> &'static str {
+    match end {
+        End::Any => "no order was found, and the furthest that was tried takes",
+        End::Settled =>
+            "no order that ends settled was found, and the furthest that was tried takes",
+    }
+}
 
 /// Reports on standard error what came of a search for an order, and returns the exit status.
 fn sum_up<R: Eprint + AllocGlobal>(
@@ -160,7 +166,7 @@ fn sum_up<R: Eprint + AllocGlobal>(
             return Ok(OTHER_END);
         }
         OrderAnswer::Nowhere(order) => (order, NOWHERE, "there is no order,", "the furthest takes"),
-        OrderAnswer::Spent(order) => (order, SPENT, "gave up", TRIED_TAKES),
+        OrderAnswer::Spent(order) => (order, SPENT, "gave up", tried_by(request.options.end)),
     };
     let furthest = Furthest::of(rt.alloc(), request.options.logs, ordered, order)?;
     let reach = furthest.reach();

@@ -143,13 +143,13 @@ impl Argument {
             Argument::Settled => flag(
                 alloc,
                 "settled",
-                "Looks for an order that ends with no migration and no active transaction",
+                "Looks for an order that ends with no migration, message or active transaction",
             ),
             Argument::Furthest => valued(
                 alloc,
                 "furthest",
                 "PATH",
-                "Where no order is found, writes the scenario with the furthest one to PATH",
+                "Where no such order is found, writes the scenario with the furthest one to PATH",
             ),
             Argument::File(help) => Arg::new(alloc, "file").value_name("FILE").help(help),
         }

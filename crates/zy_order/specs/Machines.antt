@@ -13,16 +13,16 @@ pub record IsThere (h : History) (paths : List (List Choice)) (at : ℕ) (m : Hi
   pub there : at < length paths
   pub here : IsHere h paths at m
 
--- a machine of the scenario, where the path leads whose place it has
+-- a machine of the scenario, which is where a path leads if it has the place of that path
 pub record IsPlaced (h : History) (paths : List (List Choice)) (kept : PlacedMachine) : Type 0 where
   pub scenario : kept.machine.scenario ≡ h.scenario
   pub here : IfSome kept.at (λ at. IsThere h paths at kept.machine)
 
--- so are checkpoints
+-- each checkpoint is placed
 abbrev pub AreCheckpoints : History → List (List Choice) → Checkpoints → Type 0
 AreCheckpoints h paths checkpoints = All (IsPlaced h paths) checkpoints.points.items
 
--- and all that are kept
+-- each machine that is kept is placed
 pub record AreRecentMachines (h : History) (paths : List (List Choice)) (recent : RecentMachines) : Type 0 where
   pub machines : All (IsPlaced h paths) recent.machines.items
   pub checkpoints : AreCheckpoints h paths recent.checkpoints

@@ -70,12 +70,9 @@ fn mixed_rows(digest: u64, rows: &[Row]) -> u64 {
     digest
 }
 
-/// With a transaction. Of one that has ended the commits, or the reason of its abort, say enough.
+/// With a transaction.
 fn mixed_txn(digest: u64, txn: &Txn) -> u64 {
     let mut digest = mixed_status(digest, txn.status());
-    if !txn.is_active() {
-        return digest;
-    }
     digest = mixed(digest, node_number(txn.node()));
     digest = mixed(mixed(digest, u64::from(txn.pc())), u64::from(txn.done()));
     for r in txn.regs() {

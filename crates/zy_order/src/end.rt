@@ -16,7 +16,7 @@ pub enum End {
 }
 
 /// Whether a machine's state is such a last state.
-pub fn has_end(end: End, machine: &Machine) -> bool
+pub(crate) fn has_end(end: End, machine: &Machine) -> bool
     ensures { Decides result (HasEnd end machine.now.state) }
 {
     match end {

@@ -98,7 +98,7 @@ impl Logs {
         cursors.of(actor).missing < self.gap_at(cursors, actor)
     }
 
-    /// Whether no actor may have made one step more that its log lacks. Where it answers yes none may have.
+    /// Whether no actor may have made one step more that its log lacks. The contract speaks of yes alone.
     pub(crate) fn has_no_gap(&self, cursors: Cursors) -> bool
         ensures { result ≡ true → (x : AnActor) → spec.HasGap x self.now cursors → ⊥ }
     {

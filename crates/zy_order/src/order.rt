@@ -57,8 +57,8 @@ fn report_of(reached: &Reached, at: u32, answer: OrderAnswer) -> OrderReport
     }
 }
 
-/// The place of a path that matches all lines, if one does.
-fn matched(plan: &Plan, reached: &Reached) -> Option<u32>
+/// The place of the first path that matches all lines, if one does.
+fn first_matched(plan: &Plan, reached: &Reached) -> Option<u32>
     requires few { length reached.now.cursors.items < 2 ^ 32 }
     ensures { MatchOption result
         ((i : ℕ) → i < length reached.now.cursors.items → AreMatched plan.now.logs (cursors_at reached.now i) → ⊥)
@@ -108,12 +108,12 @@ fn other_end(plan: &Plan, reached: &Reached, at: u32) -> Result<OrderReport, Fau
 }
 
 /// The report where each path was followed, and none is an order with the end that is asked for.
-fn none(plan: &Plan, reached: &Reached) -> Result<OrderReport, Fault>
+fn not_found(plan: &Plan, reached: &Reached) -> Result<OrderReport, Fault>
     requires under_way { IsUnderWay plan.now reached.now }
     requires followed { Settles plan.now reached.now Followed.Nowhere }
     ensures { IfOk result (λ r. AnswersFor plan.now r.answer) }
 {
-    match matched(plan, reached) {
+    match first_matched(plan, reached) {
         Some(at) => other_end(plan, reached, at),
         None => nowhere(plan, reached),
     }
@@ -137,7 +137,7 @@ fn report_on(plan: &Plan, reached: &Reached, followed: Followed) -> Result<Order
 {
     match followed {
         Followed::Whole(at) => found(plan, reached, at),
-        Followed::Nowhere => none(plan, reached),
+        Followed::Nowhere => not_found(plan, reached),
         Followed::Spent => spent(plan, reached),
     }
 }

@@ -9,8 +9,8 @@ use crate::plan::Plan;
 use crate::reached::Reached;
 use zy_machine::Fault;
 
-/// Brings a machine to where the path at a place leads: on from where it is, if the path passes there, or else from the
-/// last checkpoint that it passes.
+/// Brings a machine to where the path at a place leads. It goes on from the last place of that path where the machine is, a
+/// checkpoint is, or the path starts.
 pub(crate) fn go_to(
     plan: &Plan,
     reached: &Reached,

@@ -141,13 +141,20 @@ impl<'a> Furthest<'a> {
         Ok(None)
     }
 
-    /// Says on standard error which next lines do not fit, and what the table gives; last those that may only wait for another.
+    /// Says on standard error which next lines do not fit, and what the table gives; last those that may only come too early.
     /// Where each fits, only lines of the client are left, and the first of them that does not fit behind the others is named.
     pub fn tell<R: Eprint + AllocGlobal>(&self, rt: &R, file: Option<&str>, input: &[u8]) {
+        let alloc = rt.alloc();
+        let unfit = [
+            self.unfit(alloc, Actor::C),
+            self.unfit(alloc, Actor::A),
+            self.unfit(alloc, Actor::B),
+        ];
         let mut is_named = false;
-        for may_wait in [false, true] {
-            for actor in [Actor::C, Actor::A, Actor::B] {
-                is_named |= self.tell_next(rt, file, input, actor, may_wait);
+        for may_be_early in [false, true] {
+            for next in &unfit {
+                is_named |= next.is_some();
+                self.tell_if(rt, file, input, next, may_be_early);
             }
         }
         if !is_named {
@@ -155,26 +162,45 @@ impl<'a> Furthest<'a> {
         }
     }
 
-    /// Says what the table gives in the place of the next line of an actor, and whether there is one that does not fit: one that
-    /// may only wait for another, or one that does not.
-    fn tell_next<R: Eprint + AllocGlobal>(
+    /// Says what the table gives in the place of a line, if there is one, and it may only come too early or may not.
+    fn tell_if<R: Eprint + AllocGlobal>(
         &self,
         rt: &R,
         file: Option<&str>,
         input: &[u8],
-        actor: Actor,
-        may_wait: bool,
-    ) -> bool {
-        let Some(next) = self.next(actor) else {
-            return false;
-        };
-        match self.instead(rt.alloc(), next.step) {
-            Ok(Some(entry)) if waits_for_another(entry.outcome) == may_wait => {
-                self.tell_line(rt, file, input, next, &entry);
-                true
+        next: &Option<(NumberedStep, Entry)>,
+        may_be_early: bool,
+    ) {
+        if let Some((line, entry)) = next {
+            if self.may_be_early(entry) == may_be_early {
+                self.tell_line(rt, file, input, *line, entry);
             }
+        }
+    }
+
+    /// The next line of an actor, if it does not fit, and the step that comes in its place. Out of memory it is none.
+    fn unfit(&self, alloc: Global, actor: Actor) -> Option<(NumberedStep, Entry)> {
+        let next = self.next(actor)?;
+        match self.instead(alloc, next.step) {
+            Ok(Some(entry)) => Some((next, entry)),
+            _ => None,
+        }
+    }
+
+    /// Whether a step comes of a choice that may only be made too early: before a message is sent, or a transaction begins.
+    fn may_be_early(&self, entry: &Entry) -> bool {
+        match (entry.outcome, entry.choice) {
+            (Outcome::NoMessage, _) => true,
+            (Outcome::NotYet, _) => true,
+            (Outcome::Idle, Choice::Run(_, t)) => self.is_new(t),
+            (Outcome::Idle, Choice::Kill(t)) => self.is_new(t),
             _ => false,
         }
+    }
+
+    /// Whether a transaction has not begun at its end.
+    fn is_new(&self, t: u8) -> bool {
+        usize::from(t) < self.machine.txn_count() && self.machine.txn(t).is_new()
     }
 
     /// Says what the table gives in the place of the first line of the client that does not fit behind the others.
@@ -203,19 +229,10 @@ impl<'a> Furthest<'a> {
                 number: line.number,
                 bytes: told_bytes(self.logs, input, line.number),
                 came: behind_arrow(step.as_bytes()),
-                may_wait: waits_for_another(entry.outcome),
+                may_be_early: self.may_be_early(entry),
             };
             let _ = eprintln!(rt; "{unfit}");
         }
-    }
-}
-
-/// Whether an outcome comes where a step is made before one of another actor: before the message is sent, or the transaction
-/// begins.
-fn waits_for_another(outcome: Outcome) -> bool {
-    match outcome {
-        Outcome::NoMessage | Outcome::NotYet | Outcome::Idle => true,
-        _ => false,
     }
 }
 
@@ -309,8 +326,8 @@ struct Unfit<'a> {
     /// The line, without its comment.
     bytes: &'a [u8],
     came: &'a [u8],
-    /// Whether it may only wait for another line.
-    may_wait: bool,
+    /// Whether its step may only be made too early.
+    may_be_early: bool,
 }
 
 impl<'a> Unfit<'a> {
@@ -341,7 +358,7 @@ impl fmt::Display for Unfit<'_> {
             "{}{colon} {told}: the table gives {came} there",
             self.origin()
         )?;
-        f.write_str(if self.may_wait {
+        f.write_str(if self.may_be_early {
             ", perhaps only for want of a line above"
         } else {
             ""

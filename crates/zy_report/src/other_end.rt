@@ -45,7 +45,8 @@ fn unsettled_parts(alloc: Global, machine: &Machine) -> Result<LineBuffer, Alloc
     for t in 0..machine.txn_count() {
         if machine.txn(t as u8).is_active() {
             open(&mut parts)?;
-            joined!("txn ", Decimal(t), " active'").append(&mut parts)?;
+            joined!("txn ", Decimal(t), " active").append(&mut parts)?;
+            parts.push(b'\'')?;
         }
     }
     Ok(parts)
@@ -53,15 +54,12 @@ fn unsettled_parts(alloc: Global, machine: &Machine) -> Result<LineBuffer, Alloc
 
 /// Opens the quotes of one part more.
 fn open(parts: &mut LineBuffer) -> Result<(), AllocError> {
-    if !parts.is_empty() {
-        parts.push_str(", ")?;
-    }
-    parts.push(b'\'')
+    parts.push_str(if parts.is_empty() { "'" } else { ", '" })
 }
 
 /// Adds the mode of a node that takes part in a migration.
 fn push_mode(parts: &mut LineBuffer, node: Node, mode: NodeMode) -> Result<(), AllocError> {
-    if mode == NodeMode::Normal || mode == NodeMode::Empty {
+    if matches!(mode, NodeMode::Normal | NodeMode::Empty) {
         return Ok(());
     }
     open(parts)?;
