@@ -23,7 +23,7 @@ mod still;
 mod stuck;
 pub mod tree;
 pub mod turn_numbers;
-pub mod walk;
+mod walk;
 pub mod watch;
 
 pub use crate::answer::{SearchAnswer, SearchReport};

@@ -12,8 +12,8 @@ use Rattle.zy_step_cache.specs.declared.places.Scope.{Scope}
 use Rattle.zy_step_cache.specs.declared.places.Scope.TheVariants as scope
 
 -- of a state with as many numbers no step is remembered
-abbrev pub most_numbers : ℕ
-most_numbers = max_u32
+abbrev pub numbers_end : ℕ
+numbers_end = max_u32
 
 -- ---- where a part's number stands among those of a state
 

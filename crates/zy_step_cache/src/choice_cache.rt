@@ -6,7 +6,7 @@ ghost use Rattle.zy_isa.specs.declared.choice.Choice.TheVariants.{Run};
 ghost use Rattle.zy_isa.specs.Scenario.{Scenario};
 ghost use Rattle.zy_steps.specs.declared.part.StatePart.{StatePart};
 ghost use Rattle.zy_step_cache.specs.Places as spec;
-ghost use Rattle.zy_step_cache.specs.Places.{most_numbers};
+ghost use Rattle.zy_step_cache.specs.Places.{numbers_end};
 ghost use Rattle.zy_step_cache.specs.Steps.{put_at, AreTrue, IsInScope};
 ghost use Rattle.zy_state_ids.specs.Parts.{IsNumbered};
 ghost use Rattle.zy_table.specs.Play.{step};
@@ -82,7 +82,7 @@ fn note_of(
     after: &[u32],
     outcome: Outcome,
 ) -> CachedStep
-    requires { length before.now < most_numbers }
+    requires { length before.now < numbers_end }
     ensures scope { result.scope ≡ scope }
     ensures read { result.read ≡ spec.reads table.now choice scope before.now }
     ensures written { result.written ≡ map (spec.at after.now) (spec.places table.now choice scope before.now) }
@@ -134,7 +134,7 @@ impl ChoiceCache {
 
     /// A step that read what its choice reads of these numbers in a scope, if one is remembered.
     fn recall_in(&self, table: &PartTable, scope: Scope, numbers: &[u32]) -> Option<&CachedStep>
-        requires { length numbers.now < most_numbers }
+        requires { length numbers.now < numbers_end }
         ensures there { IfSome result (λ r. Contains self.entry.now.steps.items r.now) }
         ensures read { IfSome result (λ r. r.now.read
             ≡ spec.reads table.entry.now self.entry.now.choice r.now.scope numbers.entry.now) }
@@ -144,7 +144,7 @@ impl ChoiceCache {
 
     /// A step that read what its choice reads of these numbers, if one is remembered.
     pub fn recall(&self, table: &PartTable, numbers: &[u32]) -> Option<&CachedStep>
-        requires { length numbers.now < most_numbers }
+        requires { length numbers.now < numbers_end }
         ensures there { IfSome result (λ r. Contains self.entry.now.steps.items r.now) }
         ensures read { IfSome result (λ r. r.now.read
             ≡ spec.reads table.entry.now self.entry.now.choice r.now.scope numbers.entry.now) }
@@ -169,7 +169,7 @@ impl ChoiceCache {
         after: &[u32],
         outcome: Outcome,
     ) -> Result<(), AllocError>
-        requires { length before.now < most_numbers }
+        requires { length before.now < numbers_end }
         ensures choice { self.new.choice ≡ self.old.choice }
         // Each remembered step happened, if this one did.
         ensures steps { OnOk result ((sc : Scenario) (part : StatePart) (s : State)

@@ -2,7 +2,7 @@
 ghost use Rattle.std.specs.Prelude.{◌≡◌, ◌==◌, ◌&&◌, ◌+◌, ◌*◌, ◌<◌, ℕ, List, drop, length, map};
 ghost use Rattle.zy_isa.specs.declared.choice.Choice.TheVariants.{Run};
 ghost use Rattle.zy_step_cache.specs.Places as spec;
-ghost use Rattle.zy_step_cache.specs.Places.{most_numbers};
+ghost use Rattle.zy_step_cache.specs.Places.{numbers_end};
 ghost use Rattle.zy_step_cache.specs.Rests as rests;
 ghost use Rattle.zy_state_ids.specs.Codes as codes;
 ghost use Rattle.zy_table.specs.State as table;
@@ -187,7 +187,7 @@ pub fn rests(table: &PartTable, choice: Choice, numbers: &[u32]) -> bool
 
 /// The lowest of some transactions that is active at a node, plus 1, or 0.
 fn lowest_in(table: &PartTable, n: Node, numbers: &[u32]) -> u32
-    requires { length numbers.now < most_numbers }
+    requires { length numbers.now < numbers_end }
     ensures { result ≡ spec.lowest_in table.now n 0 numbers.now }
 {
     for t in 0..numbers.len() {
@@ -281,7 +281,7 @@ fn scope_code(scope: Scope) -> u32
 
 /// What a choice reads beside: the modes, the lowest active transaction, the scope of a run, or 0.
 fn beside(table: &PartTable, choice: Choice, scope: Scope, numbers: &[u32]) -> u32
-    requires { length numbers.now < most_numbers }
+    requires { length numbers.now < numbers_end }
     ensures { result ≡ spec.beside table.now choice scope numbers.now }
 {
     match choice {
@@ -309,7 +309,7 @@ pub fn at_places(numbers: &[u32], places: [usize; 4]) -> [u32; 4]
 
 /// What is read at the four places, and beside.
 fn reads_of_most(table: &PartTable, choice: Choice, scope: Scope, numbers: &[u32]) -> Read
-    requires { length numbers.now < most_numbers }
+    requires { length numbers.now < numbers_end }
     ensures { result ≡ spec.reads table.now choice scope numbers.now }
 {
     let [first, second, third, fourth] = at_places(numbers, places(table, choice, scope, numbers));
@@ -343,7 +343,7 @@ fn reads_of_run(n: Node, t: u8, scope: Scope, numbers: &[u32]) -> Read
 
 /// All that a choice reads.
 pub fn reads(table: &PartTable, choice: Choice, scope: Scope, numbers: &[u32]) -> Read
-    requires { length numbers.now < most_numbers }
+    requires { length numbers.now < numbers_end }
     ensures { result ≡ spec.reads table.now choice scope numbers.now }
 {
     match choice {

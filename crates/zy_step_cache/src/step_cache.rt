@@ -3,7 +3,7 @@ ghost use Rattle.std.specs.Prelude.{◌≡◌, ◌<◌, [], IfOk, IfSome, OnOk, 
 ghost use Rattle.std.specs.List.{All};
 ghost use Rattle.zy_isa.specs.Choices.{names_below};
 ghost use Rattle.zy_isa.specs.Scenario.{Scenario};
-ghost use Rattle.zy_step_cache.specs.Places.{most_numbers};
+ghost use Rattle.zy_step_cache.specs.Places.{numbers_end};
 ghost use Rattle.zy_step_cache.specs.StepCaches.{choice_at, choices_of, numbers_by, IsTrue, Leads, Numbers};
 ghost use Rattle.zy_step_cache.specs.Rests.{is_idle};
 ghost use Rattle.zy_state_ids.specs.Parts.{Keeps};
@@ -121,7 +121,7 @@ impl StepCache {
         outcome: Outcome,
     ) -> Result<(), AllocError>
         requires there { place < length self.old.caches.items }
-        requires few { length before.now < most_numbers }
+        requires few { length before.now < numbers_end }
         ensures part { self.new.part ≡ self.old.part }
         ensures table { self.new.table ≡ self.old.table }
         ensures choices { choices_of self.new ≡ choices_of self.old }

@@ -34,7 +34,7 @@ pub record TreeNode : Type 0 where
   pub end : ℕ
   pub entries : List IndexEntry
 
--- how many entries there are, which are the first of the cells
+-- how many entries there are, at most `most_entries`, which are the first of the cells
 pub record IsCells (len : ℕ) (cells : List IndexEntry) : Type 0 where
   pub few : len ≤ most_entries
   pub full : length cells ≡ most_entries
