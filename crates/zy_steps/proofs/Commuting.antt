@@ -1,5 +1,5 @@
 -- A run whose outcome is `did` may come first.
-use Rattle.std.proofs.Common.{◌≡◌, ◌∙◌, ℕ, List, [], ◌∷◌, inl, inr, length, refl, sym, ap, subst, None}
+use Rattle.std.proofs.Common.{◌≡◌, ◌∙◌, ℕ, List, [], ◌∷◌, inl, inr, length, refl, sym, ap, subst, None, Option}
 use Rattle.std.proofs.lemmas.Bool.{false≢true}
 use Rattle.zy_isa.specs.declared.node.Node.{Node}
 use Rattle.zy_isa.specs.declared.node.Node.TheVariants.{A, B}
@@ -12,12 +12,18 @@ use Rattle.zy_table.specs.declared.entry.Entry.{Entry}
 use Rattle.zy_table.specs.declared.outcome.Outcome.TheVariants.{Did}
 use Rattle.zy_table.specs.State.{State, NodeState, Step, Txn, facing, as_step}
 use Rattle.zy_table.specs.Change.{txn_at}
-use Rattle.zy_table.specs.Play.{move, step, side_of, play, entry_of, entries}
+use Rattle.zy_table.specs.Client.{is_active}
+use Rattle.zy_isa.specs.Choices.{actor_of, actor_at}
+use Rattle.zy_table.specs.Play.{move, step, side_of, play, entry_of}
+use Rattle.zy_table.specs.declared.observation.Observation.{Observation}
+use Rattle.zy_table.specs.Observations.{txn_of, value_of, observation_at, observations}
 use Rattle.zy_steps.proofs.Rest.{step_leaves}
 use Rattle.zy_steps.specs.Commute.{Does, AreOfOthers, MayComeFirst}
 use Rattle.zy_steps.proofs.SetTwo.{Stays}
 use Rattle.zy_steps.proofs.DidRuns.{moded, relocked, did_went, stands}
 use Rattle.zy_steps.proofs.Carried.{carried}
+use Rattle.zy_steps.proofs.SameValues.{of_view, same_value}
+use Rattle.zy_steps.proofs.FarValues.{moved_self, far_value}
 use Rattle.zy_steps.proofs.Unseen.{which, all_hide, killed_for_good}
 use Rattle.zy_steps.proofs.Passes.{Passes, IsApart, IsSettled, has_begun, moved, apart_passes}
 
@@ -47,6 +53,7 @@ record Twice (sc : Scenario) (n : Node) (t : ℕ) (s : State) (c : Choice) : Typ
   pub locks : List Lock
   pub others : List Lock
   pub stays : Stays (txn_at (facing n s) t) txn
+  pub same : txn_of (step sc c s).after t ≡ txn_of s t
   pub first : step sc (Run n t) s ≡ did_step n t txn locks s
   pub second : step sc (Run n t) (step sc c s).after ≡ did_step n t txn others (step sc c s).after
   pub other : step sc c (moved n t txn locks s) ≡ record (step sc c s) { after = moved n t txn others (step sc c s).after }
@@ -71,6 +78,7 @@ module _ (sc : Scenario) (n : Node) (t : ℕ) where
         locks = went.locks;
         others = p.on_locks went.locks;
         stays = went.stays;
+        same = of_view n r t ∙ (p.txn ∙ sym (of_view n s t));
         first = ap (as_step n) went.first;
         second = again;
         other = p.step went.txn went.locks went.stays;
@@ -98,28 +106,47 @@ module _ (sc : Scenario) (n : Node) (t : ℕ) where
       ∙ (ap (λ (x : Step). x.after) k.other
       ∙ sym (ap (λ (x : Step). x.after) k.second))
 
-  -- the run is the same
-  own_same : (s : State) (c : Choice) → Twice sc n t s c
-      → entry_of (Run n t) (step sc (Run n t) (step sc c s).after) ≡ entry_of (Run n t) (step sc (Run n t) s)
-  own_same s c k = ap (entry_of (Run n t)) k.second ∙ sym (ap (entry_of (Run n t)) k.first)
+  -- t is active where its run did
+  active_where : (r : State) → Does sc n t r → is_active (txn_at (facing n r) t).status ≡ true
+  unfolding step move
+  active_where r does = (stands sc n t (facing n r) does.outcome).active
 
-  -- so is the choice
-  other_same : (s : State) (c : Choice) → Twice sc n t s c → entry_of c (step sc c (step sc (Run n t) s).after) ≡ entry_of c (step sc c s)
-  other_same s c k = ap (λ (x : Step). entry_of c (step sc c x.after)) k.first ∙ ap (entry_of c) k.other
+  -- the run shows the same
+  own_same : (s : State) (c : Choice) → Does sc n t s → Twice sc n t s c → observation_at sc (step sc c s).after (Run n t) ≡ observation_at sc s (Run n t)
+  own_same s c does k =
+      let r = (step sc c s).after in
+      let after : txn_of (step sc (Run n t) r).after t ≡ txn_of (step sc (Run n t) s).after t =
+      ap (λ (x : Step). txn_of x.after t) k.second
+      ∙ (moved_self n t k.txn k.others r (active_where r k.does)
+      ∙ (sym (moved_self n t k.txn k.locks s (active_where s does)) ∙ sym (ap (λ (x : Step). txn_of x.after t) k.first))) in
+      let value = same_value sc n t r s k.same (ap (λ (x : Step). x.outcome) k.second ∙ sym (ap (λ (x : Step). x.outcome) k.first)) after in
+      ap (λ (v : Option ℕ). record { entry = entry_of (Run n t) (step sc (Run n t) r); value = v }) value
+      ∙ ap (λ (e : Entry). record { entry = e; value = value_of sc s (Run n t) })
+      (ap (entry_of (Run n t)) k.second ∙ sym (ap (entry_of (Run n t)) k.first))
+
+  -- so does the choice
+  other_same : (s : State) (c : Choice) → Does sc n t s → (actor_of c ≡ actor_at n → ⊥) → Twice sc n t s c
+      → observation_at sc (step sc (Run n t) s).after c ≡ observation_at sc s c
+  other_same s c does far k =
+      let there = moved n t k.txn k.locks s in
+      ap (λ (x : Step). observation_at sc x.after c) k.first
+      ∙ (ap (λ (x : Step). record { entry = entry_of c x; value = value_of sc there c }) k.other
+      ∙ ap (λ (v : Option ℕ). record { entry = entry_of c (step sc c s); value = v })
+      (far_value sc n t k.txn k.txn k.locks k.others s c (does_settled s does) far k.other))
 
   -- many may
-  comes_first : (s : State) (cs : List Choice) → Does sc n t s → AreApart n t cs → MayComeFirst sc s (Run n t) cs
-  comes_first s [] does apart = record { after = refl; own = refl; others = refl }
-  comes_first s (c ∷ cs) does apart =
+  comes_first : (s : State) (cs : List Choice) → Does sc n t s → AreOfOthers n cs → AreApart n t cs → MayComeFirst sc s (Run n t) cs
+  comes_first s [] does far apart = record { after = refl; own = refl; others = refl }
+  comes_first s (c ∷ cs) does far apart =
       let k = swaps s c does apart.0 in
-      let rest = comes_first (step sc c s).after cs k.does apart.1 in
+      let rest = comes_first (step sc c s).after cs k.does far.1 apart.1 in
       let there = swapped s c k in
       record {
         after = ap (λ (r : State). play sc r cs) there ∙ rest.after;
-        own = rest.own ∙ own_same s c k;
+        own = rest.own ∙ own_same s c does k;
         others =
-            ap (λ (e : Entry). e ∷ entries sc (step sc c (step sc (Run n t) s).after).after cs) (other_same s c k)
-            ∙ ap (λ (es : List Entry). entry_of c (step sc c s) ∷ es) (ap (λ (r : State). entries sc r cs) there ∙ rest.others);
+            ap (λ (o : Observation). o ∷ observations sc (step sc c (step sc (Run n t) s).after).after cs) (other_same s c does far.0 k)
+            ∙ ap (λ (os : List Observation). observation_at sc s c ∷ os) (ap (λ (r : State). observations sc r cs) there ∙ rest.others);
       }
 
   -- behind a kill of t its outcome is another
@@ -143,12 +170,12 @@ module _ (sc : Scenario) (n : Node) (t : ℕ) where
   -- the law: it may come first
   pub may_come_first : (s : State) (cs : List Choice) → Does sc n t s → AreOfOthers n cs → (step sc (Run n t) (play sc s cs)).outcome ≡ Did
       → MayComeFirst sc s (Run n t) cs
-  may_come_first s cs does far did = comes_first s cs does (are_apart s cs does far did)
+  may_come_first s cs does far did = comes_first s cs does far (are_apart s cs does far did)
 
   -- the law: other actors do not see it
-  pub unseen : (s : State) (cs : List Choice) → Does sc n t s → AreOfOthers n cs → entries sc (step sc (Run n t) s).after cs ≡ entries sc s cs
+  pub unseen : (s : State) (cs : List Choice) → Does sc n t s → AreOfOthers n cs → observations sc (step sc (Run n t) s).after cs ≡ observations sc s cs
   unseen s cs does far =
       let p = apart_passes sc n t s (does_settled s does) Start tt in
       let k = twice s Start does p in
-      ap (λ (x : Step). entries sc x.after cs) k.first
+      ap (λ (x : Step). observations sc x.after cs) k.first
       ∙ all_hide sc n t s k.txn k.locks cs k.stays (does_settled s does) far

@@ -14,5 +14,7 @@ pub mod Carried
 pub mod Numbered
 pub mod Asides
 pub mod Passes
+pub mod SameValues
+pub mod FarValues
 pub mod Unseen
 pub mod Commuting

@@ -1,5 +1,5 @@
 -- What a node's run did is seen by no other actor, even where the client kills its transaction.
-use Rattle.std.proofs.Common.{◌≡◌, ◌∙◌, ◌⊎◌, inl, inr, ℕ, List, [], ◌∷◌, refl, sym, ap, subst, true, false, None}
+use Rattle.std.proofs.Common.{◌≡◌, ◌∙◌, ◌⊎◌, inl, inr, ℕ, List, [], ◌∷◌, refl, sym, ap, subst, true, false, None, Option}
 use Rattle.std.proofs.lemmas.Bool.{cases_Bool, cases_eq, false≢true}
 use Rattle.zy_isa.specs.declared.node.Node.{Node}
 use Rattle.zy_isa.specs.declared.node.Node.TheVariants.{A, B}
@@ -9,7 +9,7 @@ use Rattle.zy_isa.specs.Choices.{actor_of, actor_at}
 use Rattle.zy_isa.specs.Scenario.{Scenario}
 use Rattle.zy_model.specs.declared.lock.Lock.{Lock}
 use Rattle.zy_model.specs.Locks.{drop_locks}
-use Rattle.zy_table.specs.declared.entry.Entry.{Entry}
+use Rattle.zy_table.specs.declared.observation.Observation.{Observation}
 use Rattle.zy_table.specs.declared.outcome.Why.TheVariants as why
 use Rattle.zy_table.specs.declared.outcome.Outcome.{Outcome}
 use Rattle.zy_table.specs.declared.outcome.Outcome.TheVariants as outcome
@@ -18,12 +18,14 @@ use Rattle.zy_table.specs.State.{State, View, Step, Txn, facing, other, as_step}
 use Rattle.zy_table.specs.Change.{quiet, txn_at, aborted}
 use Rattle.zy_table.specs.Client.{is_active, is_new, kill_step}
 use Rattle.zy_table.specs.Run.{same_node}
-use Rattle.zy_table.specs.Play.{move, step, side_of, play, entry_of, entries}
+use Rattle.zy_table.specs.Play.{move, step, side_of, play, entry_of}
+use Rattle.zy_table.specs.Observations.{value_of, observation_at, observations}
 use Rattle.zy_laws.proofs.walk.Txns.{at_self, at_side}
 use Rattle.zy_steps.proofs.Rest.{face}
 use Rattle.zy_steps.specs.Commute.{AreOfOthers}
 use Rattle.zy_steps.proofs.DidRuns.{put, relocked}
 use Rattle.zy_steps.proofs.SetTwo.{Stays, set_twice}
+use Rattle.zy_steps.proofs.FarValues.{same_nodes, far_value}
 use Rattle.zy_steps.proofs.Passes.{Passes, IsApart, IsSettled, moved, moved_step, apart_passes, still_passes, near_view, near_state}
 
 -- ---- which choices there are
@@ -46,13 +48,6 @@ which n t (Finish m) h = inl (far_node m n h)
 which n t (Push m) h = inl (far_node m n h)
 
 -- ---- a kill of t
-
--- nodes that the test says are the same are
-same_nodes : (k n : Node) → same_node k n ≡ true → k ≡ n
-same_nodes A A e = refl
-same_nodes A B e = absurd (false≢true e)
-same_nodes B A e = absurd (false≢true e)
-same_nodes B B e = refl
 
 -- a move that changes nothing, as a step
 rest_step : (k : Node) (r : State) (o : Outcome) → as_step k (quiet (facing k r) o) ≡ record { after = r; outcome = o; sent = None }
@@ -173,13 +168,19 @@ module _ (sc : Scenario) (n : Node) (t : ℕ) where
 
   -- so are many
   pub all_hide : (s : State) (y : Txn) (ls : List Lock) (cs : List Choice) → Stays (txn_at (facing n s) t) y → IsSettled n t (facing n s)
-      → AreOfOthers n cs → entries sc (moved n t y ls s) cs ≡ entries sc s cs
+      → AreOfOthers n cs → observations sc (moved n t y ls s) cs ≡ observations sc s cs
   all_hide s y ls [] stays settled far = refl
   all_hide s y ls (c ∷ cs) stays settled far =
       let h = each_hides s y ls c stays settled far.0 in
       let r = (step sc c s).after in
-      ap (λ (x : Step). entry_of c x ∷ entries sc x.after cs) h.step
-      ∙ ap (λ (es : List Entry). entry_of c (step sc c s) ∷ es) (all_hide r h.txn h.locks cs h.stays h.settled far.1)
+      let there = moved n t y ls s in
+      let value = far_value sc n t y h.txn ls h.locks s c settled far.0 h.step in
+      let first : observation_at sc there c ≡ observation_at sc s c =
+      ap (λ (x : Step). record { entry = entry_of c x; value = value_of sc there c }) h.step
+      ∙ ap (λ (v : Option ℕ). record { entry = entry_of c (step sc c s); value = v }) value in
+      ap (λ (o : Observation). o ∷ observations sc (step sc c there).after cs) first
+      ∙ (ap (λ (x : Step). observation_at sc s c ∷ observations sc x.after cs) h.step
+      ∙ ap (λ (os : List Observation). observation_at sc s c ∷ os) (all_hide r h.txn h.locks cs h.stays h.settled far.1))
 
   -- ---- t, where it has ended
 

@@ -5,7 +5,8 @@ ghost use Rattle.zy_isa.specs.declared.choice.Choice.{Choice as AChoice};
 ghost use Rattle.zy_isa.specs.declared.choice.Choice.TheVariants.{Run};
 ghost use Rattle.zy_isa.specs.declared.node.Node.{Node};
 ghost use Rattle.zy_isa.specs.Scenario.{Scenario};
-ghost use Rattle.zy_table.specs.Play.{move, step, side_of, play, entries};
+ghost use Rattle.zy_table.specs.Play.{move, step, side_of, play};
+ghost use Rattle.zy_table.specs.Observations.{observations};
 ghost use Rattle.zy_table.specs.State.{State, View, facing};
 ghost use Rattle.zy_steps.specs.Frames.{LeavesTheRest, TxnAndLocks, is_by_itself, taken_back};
 ghost use Rattle.zy_steps.specs.Reads.{Agree, SameMove, Changes, seen_by};
@@ -79,9 +80,9 @@ pub fn a_run_may_come_first()
         → (step sc (Run n t) (play sc s choices)).outcome ≡ Did → MayComeFirst sc s (Run n t) choices }
 {}
 
-/// With locks in order, a `run` whose outcome is `did` changes nothing that the client and the other node see: their
-/// choices have the same outcomes and kinds of message after it, also where one of them kills its transaction.
+/// With locks in order, a `run` whose outcome is `did` changes nothing that the client and the other node see: the steps of their
+/// choices show the same after it, also where one of them kills its transaction.
 pub fn a_run_is_unseen()
     ensures { (sc : Scenario) (n : Node) (t : ℕ) (s : State) (choices : List AChoice) → Does sc n t s → AreOfOthers n choices
-        → entries sc (step sc (Run n t) s).after choices ≡ entries sc s choices }
+        → observations sc (step sc (Run n t) s).after choices ≡ observations sc s choices }
 {}

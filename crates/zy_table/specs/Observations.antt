@@ -27,24 +27,28 @@ shown_register (Beq r q to) = None
 shown_register Commit = None
 shown_register Abort = None
 
--- the register that a transaction's next instruction shows
-abbrev pub next_register : Scenario → ℕ → Txn → Option Reg
-next_register sc t x = option_and_then shown_register (slice_get (program_of sc t) x.pc)
-
--- what a register of a transaction holds after a run that did
-abbrev pub value_in : Outcome → Txn → Option Reg → Option ℕ
-value_in Did x r = option_map (reg x.regs) r
-value_in o x r = None
-
 -- a transaction of a state
 abbrev pub txn_of : State → ℕ → Txn
 txn_of s t = txn_or (slice_get s.txns t)
 
--- the value that a step shows: none but a run has one
+-- the register that a choice shows: that of the instruction which its transaction does next
+abbrev pub register_of : Scenario → State → Choice → Option Reg
+register_of sc s (Run n t) = option_and_then shown_register (slice_get (program_of sc t) (txn_of s t).pc)
+register_of sc s c = None
+
+-- what a register of a transaction holds, where it did its instruction
+abbrev pub value_in : Txn → Outcome → Option Reg → Option ℕ
+value_in x Did r = option_map (reg x.regs) r
+value_in x o r = None
+
+-- the same where a choice led
+abbrev pub value_after : Choice → State → Outcome → Option Reg → Option ℕ
+value_after (Run n t) s o r = value_in (txn_of s t) o r
+value_after c s o r = None
+
+-- the value that the step of a choice shows
 abbrev pub value_of : Scenario → State → Choice → Option ℕ
-value_of sc s (Run n t) =
-    let x = step sc (Run n t) s in value_in x.outcome (txn_of x.after t) (next_register sc t (txn_of s t))
-value_of sc s c = None
+value_of sc s c = let x = step sc c s in value_after c x.after x.outcome (register_of sc s c)
 
 -- what the step of a choice shows
 abbrev pub observation_at : Scenario → State → Choice → Observation
