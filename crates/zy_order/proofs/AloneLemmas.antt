@@ -12,12 +12,12 @@ use Rattle.zy_isa.specs.declared.choice.Choice.TheVariants.{Run}
 use Rattle.zy_isa.specs.Choices.{actor_of, actor_at}
 use Rattle.zy_isa.specs.Scenario.{Scenario}
 use Rattle.zy_model.specs.Order.{LocksRise}
-use Rattle.zy_table.specs.declared.entry.Entry.{Entry}
+use Rattle.zy_table.specs.declared.observation.Observation.{Observation}
 use Rattle.zy_table.specs.declared.outcome.Outcome.{Outcome}
 use Rattle.zy_table.specs.declared.outcome.Outcome.TheVariants.{Did}
 use Rattle.zy_table.specs.declared.outcome.Outcome.TheVariants as outcome
 use Rattle.zy_table.specs.State.{State, facing}
-use Rattle.zy_table.specs.Play.{play, step, entries}
+use Rattle.zy_table.specs.Play.{play, step}
 use Rattle.zy_laws.proofs.walk.PlayPush.{play-push}
 use Rattle.zy_search.proofs.ScheduleLemmas.{play-append}
 use Rattle.zy_patterns.specs.Patterns.{matches}
@@ -31,7 +31,7 @@ use Rattle.zy_order.specs.declared.logs.Logs.{Logs}
 use Rattle.zy_order.specs.declared.cursors.Cursor.{Cursor}
 use Rattle.zy_order.specs.declared.cursors.Cursors.{Cursors}
 use Rattle.zy_order.specs.Gaps.{gaps_of}
-use Rattle.zy_order.specs.Orders.{entry_at}
+use Rattle.zy_table.specs.Observations.{observation_at}
 use Rattle.zy_search.specs.Stuck.{is_still}
 use Rattle.zy_search.proofs.StillSteps.{still_stays}
 use Rattle.zy_order.specs.Ways.{log_of, cursor_of, cursor, gap_at, passed, filled, moved, advanced}
@@ -80,11 +80,11 @@ same_or_not B B = inl refl
 
 -- ---- the steps of other actors
 
-module _ (count : ℕ) (l : Logs) (x : Actor) (g : Cursors) (e : Entry) (to : Cursors) (far : actor_of e.choice ≡ x → ⊥) (leads : Leads count l g e to) where
+module _ (count : ℕ) (l : Logs) (x : Actor) (g : Cursors) (o : Observation) (to : Cursors) (far : actor_of o.entry.choice ≡ x → ⊥) (leads : Leads count l g o to) where
   -- where such a step leads on, it leads on behind a line of x
-  leads_beside : Leads count l (advanced x g) e (advanced x to)
+  leads_beside : Leads count l (advanced x g) o (advanced x to)
   leads_beside =
-      let y = actor_of e.choice in
+      let y = actor_of o.entry.choice in
       let same = beside passed x y g far in
       elim leads [
         | inl by ↦ inl (
@@ -105,7 +105,7 @@ module _ (count : ℕ) (l : Logs) (x : Actor) (g : Cursors) (e : Entry) (to : Cu
   -- the cursor of x is where it was
   leads_stays : cursor_of x to ≡ cursor_of x g
   leads_stays =
-      let y = actor_of e.choice in
+      let y = actor_of o.entry.choice in
       let other : x ≡ y → ⊥ = λ same. far (sym same) in
       elim leads [
         | inl by ↦ ap (cursor_of x) by.1 ∙ beside passed y x g other
@@ -114,15 +114,15 @@ module _ (count : ℕ) (l : Logs) (x : Actor) (g : Cursors) (e : Entry) (to : Cu
 
 -- where a way of other actors leads on, it leads on behind a line of node n, from a state in which the same comes of it
 way_beside : (sc : Scenario) (l : Logs) (n : Node) (g : Cursors) (s r : State) (cs : List Choice) (to : Cursors) → AreOfOthers n cs
-    → entries sc r cs ≡ entries sc s cs → IsWay sc l g s cs to → IsWay sc l (advanced (actor_at n) g) r cs (advanced (actor_at n) to)
+    → observations sc r cs ≡ observations sc s cs → IsWay sc l g s cs to → IsWay sc l (advanced (actor_at n) g) r cs (advanced (actor_at n) to)
 way_beside sc l n g s r [] to far same way = ap (advanced (actor_at n)) way
 way_beside sc l n g s r (c ∷ cs) to far same way =
     let count = length sc.programs in
     let x = actor_at n in
-    let first : entry_at sc r c ≡ entry_at sc s c = cc same in
-    let rest : entries sc (step sc c r).after cs ≡ entries sc (step sc c s).after cs = ap (drop 1) same in (
+    let first : observation_at sc r c ≡ observation_at sc s c = cc same in
+    let rest : observations sc (step sc c r).after cs ≡ observations sc (step sc c s).after cs = ap (drop 1) same in (
       advanced x way.0,
-      subst (λ (e : Entry). Leads count l (advanced x g) e (advanced x way.0)) (sym first) (leads_beside count l x g (entry_at sc s c) way.0 far.0 way.1),
+      subst (λ (o : Observation). Leads count l (advanced x g) o (advanced x way.0)) (sym first) (leads_beside count l x g (observation_at sc s c) way.0 far.0 way.1),
       way_beside sc l n way.0 (step sc c s).after (step sc c r).after cs to far.1 rest way.2,
     )
 
@@ -132,7 +132,7 @@ way_stays : (sc : Scenario) (l : Logs) (n : Node) (g : Cursors) (s : State) (cs 
 way_stays sc l n g s [] to far way = ap (cursor_of (actor_at n)) (sym way)
 way_stays sc l n g s (c ∷ cs) to far way =
     way_stays sc l n way.0 (step sc c s).after cs to far.1 way.2
-    ∙ leads_stays (length sc.programs) l (actor_at n) g (entry_at sc s c) way.0 far.0 way.1
+    ∙ leads_stays (length sc.programs) l (actor_at n) g (observation_at sc s c) way.0 far.0 way.1
 
 -- a way, and then another
 way_append : (sc : Scenario) (l : Logs) (g : Cursors) (s : State) (cs ds : List Choice) (there to : Cursors) → IsWay sc l g s cs there
@@ -153,7 +153,7 @@ record HasOwn (sc : Scenario) (l : Logs) (n : Node) (g : Cursors) (s : State) (c
   pub others : AreOfOthers n before
   pub is : actor_of own ≡ actor_at n
   pub way : IsWay sc l g s before there
-  pub leads : Leads (length sc.programs) l there (entry_at sc (play sc s before) own) next
+  pub leads : Leads (length sc.programs) l there (observation_at sc (play sc s before) own) next
   pub goes_on : IsWay sc l next (step sc own (play sc s before)).after rest to
   pub ends : play sc s cs ≡ play sc (step sc own (play sc s before)).after rest
 
@@ -205,9 +205,9 @@ no_further_advanced node.B g = record { nodes = omega arith; client = λ e. absu
 -- Where a line of node n fits a state: its choice may be made before those of others, behind which it fits as well, and they do
 -- not see it.
 record ComesFirst (sc : Scenario) (n : Node) (s : State) (line : LogLine) : Type 0 where
-  pub after : (cs : List Choice) → AreOfOthers n cs → Agrees line (entry_at sc (play sc s cs) line.choice)
+  pub after : (cs : List Choice) → AreOfOthers n cs → Agrees line (observation_at sc (play sc s cs) line.choice)
       → play sc (step sc line.choice s).after cs ≡ (step sc line.choice (play sc s cs)).after
-  pub unseen : (cs : List Choice) → AreOfOthers n cs → entries sc (step sc line.choice s).after cs ≡ entries sc s cs
+  pub unseen : (cs : List Choice) → AreOfOthers n cs → observations sc (step sc line.choice s).after cs ≡ observations sc s cs
 
 -- the outcome of a run that did
 did_came : (o : Outcome) → matches pattern.Did o ≡ true → o ≡ Did
@@ -216,26 +216,26 @@ did_came o e = absurd (false≢true e)
 
 -- a run that did comes first
 module _ (sc : Scenario) (n : Node) (t : ℕ) (s : State) (line : LogLine) (locks : LocksRise (facing n s).me.locks) (run : line.choice ≡ Run n t)
-    (did : line.told ≡ Some pattern.Did) (agrees : Agrees line (entry_at sc s line.choice)) where
+    (did : line.told ≡ Some pattern.Did) (agrees : Agrees line (observation_at sc s line.choice)) where
   -- what agrees with the line did
-  did_by : (e : Entry) → Agrees line e → e.outcome ≡ Did
-  did_by e fits = did_came e.outcome (subst (λ (o : Option OutcomePattern). IfSome o (λ k. matches k e.outcome ≡ true)) did fits.0)
+  did_by : (o : Observation) → Agrees line o → o.entry.outcome ≡ Did
+  did_by o fits = did_came o.entry.outcome (subst (λ (told : Option OutcomePattern). IfSome told (λ k. matches k o.entry.outcome ≡ true)) did fits.0)
 
   -- so the run does
   does : Does sc n t s
-  does = record { locks = locks; outcome = did_by (entry_at sc s (Run n t)) (subst (λ (c : Choice). Agrees line (entry_at sc s c)) run agrees) }
+  does = record { locks = locks; outcome = did_by (observation_at sc s (Run n t)) (subst (λ (c : Choice). Agrees line (observation_at sc s c)) run agrees) }
 
-  did_after : (cs : List Choice) → AreOfOthers n cs → Agrees line (entry_at sc (play sc s cs) (Run n t))
+  did_after : (cs : List Choice) → AreOfOthers n cs → Agrees line (observation_at sc (play sc s cs) (Run n t))
       → play sc (step sc (Run n t) s).after cs ≡ (step sc (Run n t) (play sc s cs)).after
   did_after cs others fits =
-      (may_come_first sc n t s cs does others (did_by (entry_at sc (play sc s cs) (Run n t)) fits)).after ∙ play-push sc s cs (Run n t)
+      (may_come_first sc n t s cs does others (did_by (observation_at sc (play sc s cs) (Run n t)) fits)).after ∙ play-push sc s cs (Run n t)
 
   did_first : ComesFirst sc n s line
   did_first = record {
     after = λ cs others fits.
         subst (λ (c : Choice). play sc (step sc c s).after cs ≡ (step sc c (play sc s cs)).after) (sym run)
-        (did_after cs others (subst (λ (c : Choice). Agrees line (entry_at sc (play sc s cs) c)) run fits));
-    unseen = λ cs others. subst (λ (c : Choice). entries sc (step sc c s).after cs ≡ entries sc s cs) (sym run) (unseen sc n t s cs does others);
+        (did_after cs others (subst (λ (c : Choice). Agrees line (observation_at sc (play sc s cs) c)) run fits));
+    unseen = λ cs others. subst (λ (c : Choice). observations sc (step sc c s).after cs ≡ observations sc s cs) (sym run) (unseen sc n t s cs does others);
   }
 
 -- an outcome of which nothing comes is still
@@ -254,9 +254,9 @@ nothing_still pattern.NoPush outcome.NoPush e tells = refl
 nothing_still t o e tells = cc
 
 -- a step of which nothing comes comes first
-module _ (sc : Scenario) (n : Node) (s : State) (line : LogLine) (tells : TellsNothing line) (agrees : Agrees line (entry_at sc s line.choice)) where
+module _ (sc : Scenario) (n : Node) (s : State) (line : LogLine) (tells : TellsNothing line) (agrees : Agrees line (observation_at sc s line.choice)) where
   -- it changes nothing, wherever it fits
-  stays : (r : State) → Agrees line (entry_at sc r line.choice) → (step sc line.choice r).after ≡ r
+  stays : (r : State) → Agrees line (observation_at sc r line.choice) → (step sc line.choice r).after ≡ r
   stays r fits =
       still_stays sc line.choice r (nothing_still tells.what (step sc line.choice r).outcome tells.nothing
       (subst (λ (o : Option OutcomePattern). IfSome o (λ k. matches k (step sc line.choice r).outcome ≡ true)) tells.told fits.0))
@@ -264,7 +264,7 @@ module _ (sc : Scenario) (n : Node) (s : State) (line : LogLine) (tells : TellsN
   nothing_first : ComesFirst sc n s line
   nothing_first = record {
     after = λ cs others fits. ap (λ (r : State). play sc r cs) (stays s agrees) ∙ sym (stays (play sc s cs) fits);
-    unseen = λ cs others. ap (λ (r : State). entries sc r cs) (stays s agrees);
+    unseen = λ cs others. ap (λ (r : State). observations sc r cs) (stays s agrees);
   }
 
 -- behind the step of a line, with that line more of x, there is a way that has no more choices than some way without it, and leads as far:
@@ -290,15 +290,15 @@ module _ (sc : Scenario) (l : Logs) (n : Node) (g : Cursors) (s : State) (line :
   then = (step sc line.choice s).after
 
   -- where the cursor of the node is the same, a step of the node is that of the line, which agrees with it
-  own_is : (k : Cursors) (e : Entry) (to : Cursors) → cursor_of x k ≡ cursor_of x g → actor_of e.choice ≡ x → Leads (length sc.programs) l k e to
-      → (e.choice ≡ line.choice) × Agrees line e × (to ≡ advanced x k)
-  own_is k e to same own leads = elim leads [
+  own_is : (k : Cursors) (o : Observation) (to : Cursors) → cursor_of x k ≡ cursor_of x g → actor_of o.entry.choice ≡ x → Leads (length sc.programs) l k o to
+      → (o.entry.choice ≡ line.choice) × Agrees line o × (to ≡ advanced x k)
+  own_is k o to same own leads = elim leads [
     | inl by ↦
         let here : slice_get (log_of x l) (cursor x k) ≡ Some line =
         subst (λ (p : Cursor). slice_get (log_of x l) p.lines ≡ Some line) (sym same) next in
-        let one = same_line l k e x line own here by.0 in (
+        let one = same_line l k o x line own here by.0 in (
           sym by.0.choice ∙ ap (λ (m : LogLine). m.choice) (sym one),
-          subst (λ (m : LogLine). Agrees m e) (sym one) by.0.agrees,
+          subst (λ (m : LogLine). Agrees m o) (sym one) by.0.agrees,
           by.1 ∙ ap (λ (y : Actor). advanced y k) own,
         )
     | inr by ↦
@@ -310,8 +310,8 @@ module _ (sc : Scenario) (l : Logs) (n : Node) (g : Cursors) (s : State) (line :
   begins_own : (cs : List Choice) (to : Cursors) → HasOwn sc l n g s cs to → BeginsBy sc l line.choice g s cs to x
   begins_own cs to h =
       let there = play sc s h.before in
-      let is = own_is h.there (entry_at sc there h.own) h.next (way_stays sc l n g s h.before h.there h.others h.way) h.is h.leads in
-      let fits : Agrees line (entry_at sc there line.choice) = subst (λ (c : Choice). Agrees line (entry_at sc there c)) is.0 is.1 in
+      let is = own_is h.there (observation_at sc there h.own) h.next (way_stays sc l n g s h.before h.there h.others h.way) h.is h.leads in
+      let fits : Agrees line (observation_at sc there line.choice) = subst (λ (c : Choice). Agrees line (observation_at sc there c)) is.0 is.1 in
       let same : (step sc h.own there).after ≡ play sc then h.before =
       ap (λ (c : Choice). (step sc c there).after) is.0 ∙ sym (comes.after h.before h.others fits) in
       let rest : IsWay sc l (advanced x h.there) (play sc then h.before) h.rest to =
@@ -361,7 +361,7 @@ own_run node.B node.B t line own run = run
 
 -- such a line comes first where it fits
 alone_first : (sc : Scenario) (n : Node) (s : State) (line : LogLine) → LocksRise (facing n s).me.locks → actor_of line.choice ≡ actor_at n
-    → TellsDid line ⊎ TellsNothing line → Agrees line (entry_at sc s line.choice) → ComesFirst sc n s line
+    → TellsDid line ⊎ TellsNothing line → Agrees line (observation_at sc s line.choice) → ComesFirst sc n s line
 alone_first sc n s line locks own tells agrees = elim tells [
   | inl did ↦ did_first sc n did.txn s line locks (own_run n did.node did.txn line own did.run) did.did agrees
   | inr nothing ↦ nothing_first sc n s line nothing agrees
@@ -369,6 +369,6 @@ alone_first sc n s line locks own tells agrees = elim tells [
 
 -- so each way has one that begins by it and leads as far
 pub begins_by : (sc : Scenario) (l : Logs) (n : Node) (g : Cursors) (s : State) (line : LogLine) → LocksRise (facing n s).me.locks
-    → actor_of line.choice ≡ actor_at n → MayBeAlone n l g line → Agrees line (entry_at sc s line.choice) → (cs : List Choice) (to : Cursors)
+    → actor_of line.choice ≡ actor_at n → MayBeAlone n l g line → Agrees line (observation_at sc s line.choice) → (cs : List Choice) (to : Cursors)
     → IsWay sc l g s cs to → BeginsBy sc l line.choice g s cs to (actor_at n)
 begins_by sc l n g s line locks own may agrees = begins sc l n g s line (alone_first sc n s line locks own may.tells agrees) may.next may.whole

@@ -37,7 +37,7 @@ use Rattle.zy_order.specs.Gaps.{gaps_of, gap_count}
 use Rattle.zy_order.specs.Ways.{log_of, cursor_of, cursor, at_start, cursors_in, gap_at, advanced, with_missing, HasGap}
 use Rattle.zy_order.specs.Reaches.{all_kinds, cursors_at, IsReached, Extends, IsMet, AreMet, IsTried, AreTried, MayBeAlone, LeadsOn, FollowsAll, FollowsAlone}
 use Rattle.zy_order.specs.Reaches.{IsCompleteAt, IsFollowed, AreFollowedBut, HasEachActor, IsMetBy}
-use Rattle.zy_order.specs.Reaches.{Adds, Follows, IsPlan, IsTaken, IsWayOf, IsKnown, entry_by, state_by}
+use Rattle.zy_order.specs.Reaches.{Adds, Follows, IsPlan, IsTaken, IsWayOf, IsKnown, observation_by, state_by}
 use Rattle.zy_order.proofs.WayLemmas.{same_line}
 use Rattle.zy_order.proofs.ReachLemmas.{extends_same, complete_before, tried_on, followed_on}
 
@@ -199,21 +199,21 @@ module _ (h : History) (l : Logs) (r : Reached) (i : ℕ) (x : Actor) (line : Lo
   -- a next line that leads on is met
   met_leads : LeadsOn h r i x line → IsMet h l r i x
   met_leads leads = λ c own fits.
-      let one = same_line l (cursors_at r i) (entry_by h r i c) x line own next fits in
+      let one = same_line l (cursors_at r i) (observation_by h r i c) x line own next fits in
       let same : line.choice ≡ c = ap (λ (m : LogLine). m.choice) one ∙ fits.choice in
       subst (λ (d : Choice). IsKnown h r (advanced x (cursors_at r i)) (state_by h r i d)) same leads.known
 
   -- so is one that does not fit
-  met_unfit : (Agrees line (entry_by h r i line.choice) → ⊥) → IsMet h l r i x
+  met_unfit : (Agrees line (observation_by h r i line.choice) → ⊥) → IsMet h l r i x
   met_unfit unfit = λ c own fits.
-      let one = same_line l (cursors_at r i) (entry_by h r i c) x line own next fits in
+      let one = same_line l (cursors_at r i) (observation_by h r i c) x line own next fits in
       let same : line.choice ≡ c = ap (λ (m : LogLine). m.choice) one ∙ fits.choice in
-      let agrees = subst (λ (m : LogLine). Agrees m (entry_by h r i c)) (sym one) fits.agrees in
-      absurd (unfit (subst (λ (d : Choice). Agrees line (entry_by h r i d)) (sym same) agrees))
+      let agrees = subst (λ (m : LogLine). Agrees m (observation_by h r i c)) (sym one) fits.agrees in
+      absurd (unfit (subst (λ (d : Choice). Agrees line (observation_by h r i d)) (sym same) agrees))
 
 -- the next line where a path leads is met, after the search has gone on, if it leads on then or does not fit
 pub line_met : (h : History) (l : Logs) (r new : Reached) (i : ℕ) (x : Actor) (line : LogLine) (g : Cursors) → g ≡ cursors_at r i → Extends r new
-    → i < length r.visited → slice_get (log_of x l) (cursor x g) ≡ Some line → LeadsOn h new i x line ⊎ (Agrees line (entry_by h new i line.choice) → ⊥)
+    → i < length r.visited → slice_get (log_of x l) (cursor x g) ≡ Some line → LeadsOn h new i x line ⊎ (Agrees line (observation_by h new i line.choice) → ⊥)
     → IsMet h l new i x
 line_met h l r new i x line g is e lt next came =
     let there = subst (λ (f : Cursors). slice_get (log_of x l) (cursor x f) ≡ Some line) (is ∙ sym (e.cursors i lt)) next in

@@ -5,14 +5,14 @@ use Rattle.zy_isa.specs.declared.node.Actor.TheVariants.{C, A, B}
 use Rattle.zy_isa.specs.declared.choice.Choice.{Choice}
 use Rattle.zy_isa.specs.Choices.{actor_of}
 use Rattle.zy_isa.specs.Scenario.{Scenario}
-use Rattle.zy_table.specs.declared.entry.Entry.{Entry}
+use Rattle.zy_table.specs.declared.observation.Observation.{Observation}
 use Rattle.zy_table.specs.State.{State}
 use Rattle.zy_table.specs.Play.{step}
 use Rattle.zy_order.specs.declared.logs.Logs.{Logs}
 use Rattle.zy_order.specs.declared.cursors.Cursor.{Cursor}
 use Rattle.zy_order.specs.declared.cursors.Cursors.{Cursors}
 use Rattle.zy_order.specs.Gaps.{gaps_of}
-use Rattle.zy_order.specs.Orders.{entry_at}
+use Rattle.zy_table.specs.Observations.{observation_at}
 use Rattle.zy_order.specs.Ways.{log_of, cursor_of, gap_at, passed, filled, with_cursor, advanced, with_missing, of_nodes}
 use Rattle.zy_order.specs.Ways.{NeedsNoMore, NeedNoMore, IsNoFurther, AreMatched, HasNext, HasGap, Leads, IsWay}
 
@@ -64,9 +64,9 @@ need_with B f g p q n own = record { of_c = n.of_c; of_a = n.of_a; of_b = own }
 -- ---- what leads on
 
 -- a next line is next, too
-next_less : (l : Logs) (f g : Cursors) (e : Entry) → NeedNoMore f g → HasNext l g e → HasNext l f e
-next_less l f g e n next =
-    let x = actor_of e.choice in
+next_less : (l : Logs) (f g : Cursors) (o : Observation) → NeedNoMore f g → HasNext l g o → HasNext l f o
+next_less l f g o n next =
+    let x = actor_of o.entry.choice in
     record {
       line = next.line;
       next = ap (λ k. slice_get (log_of x l) k) (need_of x f g n).lines ∙ next.next;
@@ -83,22 +83,22 @@ gap_less x l f g n gap =
     omega (arith, is.missing, same, gap)
 
 -- where a step leads from cursors that need no more than others
-pub record LeadsLess (count : ℕ) (l : Logs) (f : Cursors) (e : Entry) (next : Cursors) : Type 0 where
+pub record LeadsLess (count : ℕ) (l : Logs) (f : Cursors) (o : Observation) (next : Cursors) : Type 0 where
   pub to : Cursors
-  pub leads : Leads count l f e to
+  pub leads : Leads count l f o to
   pub need : NeedNoMore to next
 
 -- a step that leads on from the others leads on from them, to cursors that need no more
-pub leads_less : (count : ℕ) (l : Logs) (f g : Cursors) (e : Entry) (next : Cursors) → NeedNoMore f g → Leads count l g e next → LeadsLess count l f e next
-leads_less count l f g e next n leads =
-    let x = actor_of e.choice in
+pub leads_less : (count : ℕ) (l : Logs) (f g : Cursors) (o : Observation) (next : Cursors) → NeedNoMore f g → Leads count l g o next → LeadsLess count l f o next
+leads_less count l f g o next n leads =
+    let x = actor_of o.entry.choice in
     let p = cursor_of x f in
     let q = cursor_of x g in
     let own = need_of x f g n in
     elim leads [
       | inl by ↦ record {
         to = advanced x f;
-        leads = inl (next_less l f g e n by.0, refl);
+        leads = inl (next_less l f g o n by.0, refl);
         need = subst (NeedNoMore (advanced x f)) (sym by.1) (need_with x f g (passed p) (passed q) n (needs_passed p q own));
       }
       | inr by ↦ record {
@@ -119,7 +119,7 @@ pub way_less : (sc : Scenario) (l : Logs) (f g : Cursors) (s : State) (cs : List
     → IsWayLess sc l f s cs to
 way_less sc l f g s [] to n way = record { end = f; way = refl; need = subst (NeedNoMore f) way n }
 way_less sc l f g s (c ∷ cs) to n way =
-    let first = leads_less (length sc.programs) l f g (entry_at sc s c) way.0 n way.1 in
+    let first = leads_less (length sc.programs) l f g (observation_at sc s c) way.0 n way.1 in
     let rest = way_less sc l first.to way.0 (step sc c s).after cs to first.need way.2 in
     record { end = rest.end; way = (first.to, first.leads, rest.way); need = rest.need }
 

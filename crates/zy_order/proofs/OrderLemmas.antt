@@ -6,7 +6,7 @@ use Rattle.zy_isa.specs.declared.node.Actor.TheVariants.{C, A, B}
 use Rattle.zy_isa.specs.declared.choice.Choice.{Choice}
 use Rattle.zy_isa.specs.Choices.{actor_of, names_below}
 use Rattle.zy_isa.specs.Scenario.{Scenario}
-use Rattle.zy_table.specs.declared.entry.Entry.{Entry}
+use Rattle.zy_table.specs.declared.observation.Observation.{Observation}
 use Rattle.zy_table.specs.State.{State}
 use Rattle.zy_table.specs.Play.{step}
 use Rattle.zy_threads.specs.Turns.{is_c, is_a, is_b}
@@ -16,7 +16,8 @@ use Rattle.zy_order.specs.declared.logs.Logs.{Logs}
 use Rattle.zy_order.specs.declared.cursors.Cursor.{Cursor}
 use Rattle.zy_order.specs.declared.cursors.Cursors.{Cursors}
 use Rattle.zy_order.specs.Gaps.{gaps_of, unlogged}
-use Rattle.zy_order.specs.Orders.{Fits, entry_at, lines_of, choices_of}
+use Rattle.zy_order.specs.Orders.{Fits, lines_of, choices_of}
+use Rattle.zy_table.specs.Observations.{observation_at}
 use Rattle.zy_order.specs.Ways.{log_of, cursor_of, cursor, passed, filled, with_cursor, advanced, with_missing, IsWithin, Leads, IsWay}
 use Rattle.zy_order.proofs.GapLemmas.{Ahead, ahead_none, ahead_line, ahead_missing, ahead_next, at_end}
 use Rattle.zy_order.proofs.WayLemmas.{HaveGaps, is_in, on_by}
@@ -63,17 +64,17 @@ pub record IsOrderOf (sc : Scenario) (l : Logs) (g to : Cursors) (s : State) (cs
   pub choices : cs ≡ choices_of order
 
 -- the line of a step that leads on: it is the step's choice, agrees with it, and lies before the lines behind it
-pub record IsLineOf (count : ℕ) (l : Logs) (g next to : Cursors) (e : Entry) (line : LogLine) : Type 0 where
-  pub choice : line.choice ≡ e.choice
-  pub agrees : Agrees line e
+pub record IsLineOf (count : ℕ) (l : Logs) (g next to : Cursors) (o : Observation) (line : LogLine) : Type 0 where
+  pub choice : line.choice ≡ o.entry.choice
+  pub agrees : Agrees line o
   pub before : (x : Actor) (lines : List LogLine) → IsAhead count l next to x lines
-      → IsAhead count l g to x (if is_same x (actor_of e.choice) then line ∷ lines else lines)
+      → IsAhead count l g to x (if is_same x (actor_of o.entry.choice) then line ∷ lines else lines)
 
 -- each step that leads on has one
-line_of_step : (count : ℕ) (l : Logs) (g next to : Cursors) (e : Entry) → HaveGaps l → IsWithin l g → Leads count l g e next
-    → (line : LogLine) × IsLineOf count l g next to e line
-line_of_step count l g next to e many w leads =
-    let y = actor_of e.choice in
+line_of_step : (count : ℕ) (l : Logs) (g next to : Cursors) (o : Observation) → HaveGaps l → IsWithin l g → Leads count l g o next
+    → (line : LogLine) × IsLineOf count l g next to o line
+line_of_step count l g next to o many w leads =
+    let y = actor_of o.entry.choice in
     let log = log_of y l in
     let gaps = gaps_of y l.gaps in
     let k = cursor_of y g in
@@ -90,13 +91,13 @@ line_of_step count l g next to e many w leads =
         },
       )
       | inr by ↦ (
-        unlogged e.choice,
+        unlogged o.entry.choice,
         record {
           choice = refl;
           agrees = (tt, tt);
           before = λ x lines a.
-              with_line count x y l g to (filled k) (unlogged e.choice) lines
-              (ahead_missing count y log gaps k (cursor y to) (unlogged e.choice) lines (record { is = refl; actor = refl; named = by.0.named }))
+              with_line count x y l g to (filled k) (unlogged o.entry.choice) lines
+              (ahead_missing count y log gaps k (cursor y to) (unlogged o.entry.choice) lines (record { is = refl; actor = refl; named = by.0.named }))
               (subst (λ (f : Cursors). IsAhead count l f to x lines) by.1 a);
         },
       )
@@ -118,9 +119,9 @@ order_of sc l g to s [] many w way = (
 order_of sc l g to s (c ∷ cs) many w way =
     let count = length sc.programs in
     let next = way.0 in
-    let on = on_by count l g (entry_at sc s c) next many w way.1 in
+    let on = on_by count l g (observation_at sc s c) next many w way.1 in
     let rest = order_of sc l next to (step sc c s).after cs many on.within way.2 in
-    let first = line_of_step count l g next to (entry_at sc s c) many w way.1 in
+    let first = line_of_step count l g next to (observation_at sc s c) many w way.1 in
     let line = first.0 in
     let is = first.1 in (
       line ∷ rest.0,
@@ -129,7 +130,7 @@ order_of sc l g to s (c ∷ cs) many w way =
             subst (IsAhead count l g to x) (sym (lines_cons x line rest.0))
             (subst (λ (d : Choice). IsAhead count l g to x (if is_same x (actor_of d) then line ∷ lines_of x rest.0 else lines_of x rest.0)) (sym is.choice)
             (is.before x (lines_of x rest.0) (rest.1.ahead x)));
-        fits = subst (λ (d : Choice). Agrees line (entry_at sc s d) × Fits sc (step sc d s).after rest.0) (sym is.choice) (is.agrees, rest.1.fits);
+        fits = subst (λ (d : Choice). Agrees line (observation_at sc s d) × Fits sc (step sc d s).after rest.0) (sym is.choice) (is.agrees, rest.1.fits);
         choices = λ i. sym is.choice i ∷ rest.1.choices i;
       },
     )
@@ -137,9 +138,9 @@ order_of sc l g to s (c ∷ cs) many w way =
 -- ---- from an order to a way
 
 -- the first line of an order is that of a step that leads on, and the lines behind it are ahead from there
-pub record LeadsOn (count : ℕ) (l : Logs) (g to : Cursors) (e : Entry) (order : List LogLine) : Type 0 where
+pub record LeadsOn (count : ℕ) (l : Logs) (g to : Cursors) (o : Observation) (order : List LogLine) : Type 0 where
   pub next : Cursors
-  pub leads : Leads count l g e next
+  pub leads : Leads count l g o next
   pub ahead : (x : Actor) → IsAhead count l next to x (lines_of x order)
 
 -- the lines of x behind a step of y
@@ -165,11 +166,11 @@ own_line count A l g to line lines a = a
 own_line count B l g to line lines a = a
 
 -- a line that agrees with a step and is ahead leads on
-leads_on : (count : ℕ) (l : Logs) (g to : Cursors) (e : Entry) (line : LogLine) (order : List LogLine) → line.choice ≡ e.choice → Agrees line e
-    → ((x : Actor) → IsAhead count l g to x (if is_same x (actor_of e.choice) then line ∷ lines_of x order else lines_of x order))
-    → LeadsOn count l g to e order
-leads_on count l g to e line order same agrees before =
-    let y = actor_of e.choice in
+leads_on : (count : ℕ) (l : Logs) (g to : Cursors) (o : Observation) (line : LogLine) (order : List LogLine) → line.choice ≡ o.entry.choice → Agrees line o
+    → ((x : Actor) → IsAhead count l g to x (if is_same x (actor_of o.entry.choice) then line ∷ lines_of x order else lines_of x order))
+    → LeadsOn count l g to o order
+leads_on count l g to o line order same agrees before =
+    let y = actor_of o.entry.choice in
     let own = own_line count y l g to line (lines_of y order) (before y) in
     elim (ahead_next count y (log_of y l) (gaps_of y l.gaps) (cursor_of y g) (cursor y to) line (lines_of y order) own) [
       | inl by ↦ record {
@@ -205,6 +206,6 @@ way_of sc l g to s (line ∷ order) ahead fits =
     let count = length sc.programs in
     let before : (x : Actor) → IsAhead count l g to x (if is_same x (actor_of line.choice) then line ∷ lines_of x order else lines_of x order) = λ x.
     subst (IsAhead count l g to x) (lines_cons x line order) (ahead x) in
-    let on = leads_on count l g to (entry_at sc s line.choice) line order refl fits.0 before in
+    let on = leads_on count l g to (observation_at sc s line.choice) line order refl fits.0 before in
     let rest = way_of sc l on.next to (step sc line.choice s).after order on.ahead fits.1 in
     record { end = rest.end; way = (on.next, on.leads, rest.way); lines = rest.lines }

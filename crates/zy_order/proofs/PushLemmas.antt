@@ -9,7 +9,7 @@ use Rattle.zy_isa.specs.declared.node.Actor.{Actor}
 use Rattle.zy_isa.specs.declared.choice.Choice.{Choice}
 use Rattle.zy_isa.specs.Choices.{actor_of}
 use Rattle.zy_isa.specs.Scenario.{Scenario}
-use Rattle.zy_table.specs.declared.entry.Entry.{Entry}
+use Rattle.zy_table.specs.declared.observation.Observation.{Observation}
 use Rattle.zy_table.specs.State.{State}
 use Rattle.zy_table.specs.Play.{step}
 use Rattle.zy_logs.specs.Agrees.{Agrees}
@@ -27,9 +27,9 @@ use Rattle.zy_order.specs.declared.plan.Plan.{Plan}
 use Rattle.zy_order.specs.declared.reached.Reached.{Reached}
 use Rattle.zy_order.specs.declared.search.Search.{Search}
 use Rattle.zy_order.specs.declared.search.Position.{Position}
-use Rattle.zy_order.specs.Orders.{entry_at}
+use Rattle.zy_table.specs.Observations.{observation_at}
 use Rattle.zy_order.specs.Ways.{log_of, cursor, at_start, cursors_in, advanced, NeedNoMore, Leads}
-use Rattle.zy_order.specs.Reaches.{cursors_at, entry_by, state_by, IsKnown, IsReached, IsUnderWay, IsSearch, IsWayOf}
+use Rattle.zy_order.specs.Reaches.{cursors_at, observation_by, state_by, IsKnown, IsReached, IsUnderWay, IsSearch, IsWayOf}
 use Rattle.zy_order.specs.Reaches.{IsAt, StandsAt, IsNext, GoesOn, Adds, KeepsOthers}
 use Rattle.zy_order.proofs.NeedLemmas.{need_self}
 use Rattle.zy_order.proofs.WayLemmas.{way_push}
@@ -213,15 +213,15 @@ pub adds_twin : (p : Plan) (s : Search) (m : History) → IsSearch p s → m.sce
 adds_twin p s m is scenario = adds_none p s (record s { twin = m }) (search_twin p s m is scenario) refl
 
 -- what comes of a choice from the state of a machine where a path leads
-pub entry_here : (h : History) (r : Reached) (at : ℕ) (m : History) (c : Choice) → IsHere h r.visited at m → entry_at m.scenario m.state c ≡ entry_by h r at c
-entry_here h r at m c here =
-    ap (λ (sc : Scenario). entry_at sc m.state c) here.scenario ∙ ap (λ (s : State). entry_at h.scenario s c) here.state
+pub observation_here : (h : History) (r : Reached) (at : ℕ) (m : History) (c : Choice) → IsHere h r.visited at m → observation_at m.scenario m.state c ≡ observation_by h r at c
+observation_here h r at m c here =
+    ap (λ (sc : Scenario). observation_at sc m.state c) here.scenario ∙ ap (λ (s : State). observation_at h.scenario s c) here.state
 
 -- where the twin has made a choice that leads on, the search goes on by it
 pub goes_on : (s : Search) (here : Position) (c : Choice) (to : Cursors) (twin : History) → IsAt here s → twin.scenario ≡ here.machine.now.scenario
     → twin.state ≡ (step here.machine.now.scenario c here.machine.now.state).after → length twin.entries ≡ length here.machine.now.entries + 1
     → Leads (length here.plan.now.start.scenario.programs) here.plan.now.logs (cursors_at s.reached here.at)
-    (entry_by here.plan.now.start s.reached here.at c) to
+    (observation_by here.plan.now.start s.reached here.at c) to
     → GoesOn (record s { twin = twin }) here c to
 goes_on s here c to twin is scenario state longer leads =
     let sc = here.plan.now.start.scenario in
@@ -239,11 +239,11 @@ goes_on s here c to twin is scenario state longer leads =
     }
 
 -- the next line of an actor leads on where it agrees with what comes of its choice
-pub line_leads : (count : ℕ) (l : Logs) (g : Cursors) (e : Entry) (x : Actor) (line : LogLine) (to : Cursors)
-    → slice_get (log_of x l) (cursor x g) ≡ Some line → actor_of line.choice ≡ x → line.choice ≡ e.choice → Agrees line e → to ≡ advanced x g
-    → Leads count l g e to
-line_leads count l g e x line to next own choice agrees there =
-    let same : x ≡ actor_of e.choice = sym own ∙ ap actor_of choice in
+pub line_leads : (count : ℕ) (l : Logs) (g : Cursors) (o : Observation) (x : Actor) (line : LogLine) (to : Cursors)
+    → slice_get (log_of x l) (cursor x g) ≡ Some line → actor_of line.choice ≡ x → line.choice ≡ o.entry.choice → Agrees line o → to ≡ advanced x g
+    → Leads count l g o to
+line_leads count l g o x line to next own choice agrees there =
+    let same : x ≡ actor_of o.entry.choice = sym own ∙ ap actor_of choice in
     inl (
       record {
         line = line;
@@ -288,7 +288,7 @@ goes_on_recent s t here c to new on =
     record {
       at = stands_on p s t here.at here.machine.now (adds_recent p s t new on.at.search) on.at;
       leads =
-          subst (λ (r : Reached). Leads (length h.scenario.programs) p.logs (cursors_at r here.at) (entry_by h r here.at c) to) (sym new.reached) on.leads;
+          subst (λ (r : Reached). Leads (length h.scenario.programs) p.logs (cursors_at r here.at) (observation_by h r here.at c) to) (sym new.reached) on.leads;
       next =
           subst (λ (r : Reached). IsNext h r here.at c t.twin) (sym new.reached)
           (subst (λ (m : History). IsNext h s.reached here.at c m) (sym new.twin) on.next);

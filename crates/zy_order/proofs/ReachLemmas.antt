@@ -6,7 +6,7 @@ use Rattle.zy_isa.specs.declared.node.Actor.TheVariants.{C, A, B}
 use Rattle.zy_isa.specs.declared.choice.Choice.{Choice}
 use Rattle.zy_isa.specs.Choices.{actor_of, actor_at}
 use Rattle.zy_model.specs.Order.{LocksRise}
-use Rattle.zy_table.specs.declared.entry.Entry.{Entry}
+use Rattle.zy_table.specs.declared.observation.Observation.{Observation}
 use Rattle.zy_table.specs.State.{State, facing}
 use Rattle.zy_table.specs.Play.{play, step}
 use Rattle.zy_laws.proofs.walk.PlayPush.{play-keeps}
@@ -22,10 +22,10 @@ use Rattle.zy_order.specs.declared.cursors.Cursors.{Cursors}
 use Rattle.zy_order.specs.declared.plan.Plan.{Plan}
 use Rattle.zy_order.specs.declared.reached.Reached.{Reached}
 use Rattle.zy_order.specs.Answers.{HasEnd}
-use Rattle.zy_order.specs.Orders.{entry_at}
+use Rattle.zy_table.specs.Observations.{observation_at}
 use Rattle.zy_order.specs.Ways.{log_of, cursor, at_start, cursors_in, advanced, with_missing, of_nodes, line_count}
 use Rattle.zy_order.specs.Ways.{IsNoFurther, NeedNoMore, AreMatched, HasNext, HasGap, Leads, IsWay}
-use Rattle.zy_order.specs.Reaches.{cursors_at, entry_by, state_by, Extends, IsKnown, IsReached, IsMet, IsTried, FollowsAll, MayBeAlone, LeadsOn, FollowsAlone}
+use Rattle.zy_order.specs.Reaches.{cursors_at, observation_by, state_by, Extends, IsKnown, IsReached, IsMet, IsTried, FollowsAll, MayBeAlone, LeadsOn, FollowsAlone}
 use Rattle.zy_order.specs.Reaches.{IsCompleteAt, IsFollowed, IsFurthestPath, IsWayOf, IsFurthestWay, IsOtherEndWay, IsPlan}
 use Rattle.zy_order.proofs.NeedLemmas.{need_self, need_missing, need_lines, way_less, matched_less, no_further_less, no_further_self, no_further_on}
 use Rattle.zy_order.proofs.WayLemmas.{along, log_few, within_start}
@@ -35,7 +35,7 @@ use Rattle.zy_order.proofs.AloneLemmas.{BeginsBy, begins_by}
 
 -- where all steps were followed, each step that leads on leads where a path does
 all_lead : (h : History) (l : Logs) (r : Reached) (i : ℕ) (c : Choice) (next : Cursors) → FollowsAll h l r i
-    → Leads (length h.scenario.programs) l (cursors_at r i) (entry_by h r i c) next → IsKnown h r next (state_by h r i c)
+    → Leads (length h.scenario.programs) l (cursors_at r i) (observation_by h r i c) next → IsKnown h r next (state_by h r i c)
 all_lead h l r i c next is leads =
     elim leads [
       | inl by ↦ subst (λ (g : Cursors). IsKnown h r g (state_by h r i c)) (sym by.1) (is.met (actor_of c) c refl by.0)
@@ -53,10 +53,10 @@ lines_advanced A g = omega arith
 lines_advanced B g = omega arith
 
 -- a step leads to no fewer lines
-lines_lead : (count : ℕ) (l : Logs) (g : Cursors) (e : Entry) (to : Cursors) → Leads count l g e to → lines_in g ≤ lines_in to
-lines_lead count l g e to leads = elim leads [
-  | inl by ↦ omega (arith, lines_advanced (actor_of e.choice) g, ap lines_in by.1)
-  | inr by ↦ omega (arith, need_lines g (with_missing (actor_of e.choice) g) (need_missing (actor_of e.choice) g), ap lines_in by.1)
+lines_lead : (count : ℕ) (l : Logs) (g : Cursors) (o : Observation) (to : Cursors) → Leads count l g o to → lines_in g ≤ lines_in to
+lines_lead count l g o to leads = elim leads [
+  | inl by ↦ omega (arith, lines_advanced (actor_of o.entry.choice) g, ap lines_in by.1)
+  | inr by ↦ omega (arith, need_lines g (with_missing (actor_of o.entry.choice) g) (need_missing (actor_of o.entry.choice) g), ap lines_in by.1)
 ]
 
 -- a path leads as far as a way to cursors and a state; where these match all lines it does, too, and leads to the same state
@@ -146,7 +146,7 @@ module _ (p : Plan) (r : Reached) (plan : IsPlan p) (is : IsReached p r) (all : 
       let g = cursors_at r i in
       elim (all i lt).steps [
         | inl each ↦
-            let lines = lines_lead (length h.scenario.programs) l g (entry_by h r i c) way.0 way.1 in
+            let lines = lines_lead (length h.scenario.programs) l g (observation_by h r i c) way.0 way.1 in
             from_known most ends way.0 (state_by h r i c) (all_lead h l r i c way.0 each way.1) cs to way.2 (omega (arith, few, lines))
         | inr one ↦
             let begins = begins_at i one (c ∷ cs) to way in
@@ -235,8 +235,8 @@ known_on h r new g s x known = (
 -- a line that was met still is
 pub met_on : (h : History) (l : Logs) (r new : Reached) (i : ℕ) (x : Actor) → Extends r new → i < length r.visited → IsMet h l r i x → IsMet h l new i x
 met_on h l r new i x e lt met = λ c own.
-    subst (λ (g : Cursors). HasNext l g (entry_by h new i c) → IsKnown h new (advanced x g) (state_by h new i c)) (sym (e.cursors i lt))
-    (subst (λ (path : List Choice). HasNext l (cursors_at r i) (entry_at h.scenario (reached h path) c)
+    subst (λ (g : Cursors). HasNext l g (observation_by h new i c) → IsKnown h new (advanced x g) (state_by h new i c)) (sym (e.cursors i lt))
+    (subst (λ (path : List Choice). HasNext l (cursors_at r i) (observation_at h.scenario (reached h path) c)
     → IsKnown h new (advanced x (cursors_at r i)) (step h.scenario c (reached h path)).after) (sym (e.paths.same i lt))
     (λ next. known_on h r new _ _ e (met c own next)))
 
@@ -251,12 +251,12 @@ tried_on h l r new i c e lt tried =
     (λ gap. known_on h r new _ _ e (tried gap)))
 
 -- where a line agrees with what comes of its choice and a path leads where that does, it leads on
-pub leads_by : (h : History) (r new : Reached) (i : ℕ) (x : Actor) (line : LogLine) (came : Entry) (to : Cursors) → Extends r new → i < length r.visited
-    → came ≡ entry_by h r i line.choice → Agrees line came → to ≡ advanced x (cursors_at r i) → IsKnown h new to (state_by h r i line.choice)
+pub leads_by : (h : History) (r new : Reached) (i : ℕ) (x : Actor) (line : LogLine) (came : Observation) (to : Cursors) → Extends r new → i < length r.visited
+    → came ≡ observation_by h r i line.choice → Agrees line came → to ≡ advanced x (cursors_at r i) → IsKnown h new to (state_by h r i line.choice)
     → LeadsOn h new i x line
 leads_by h r new i x line came to e lt same agrees there known = record {
   agrees =
-      subst (λ (path : List Choice). Agrees line (entry_at h.scenario (reached h path) line.choice)) (sym (e.paths.same i lt))
+      subst (λ (path : List Choice). Agrees line (observation_at h.scenario (reached h path) line.choice)) (sym (e.paths.same i lt))
       (subst (Agrees line) same agrees);
   known =
       subst (λ (g : Cursors). IsKnown h new (advanced x g) (state_by h new i line.choice)) (sym (e.cursors i lt))
@@ -265,15 +265,15 @@ leads_by h r new i x line came to e lt same agrees there known = record {
 }
 
 -- a line that does not agree with what came of its choice does not agree with what comes of it
-pub unfit_by : (h : History) (r : Reached) (i : ℕ) (line : LogLine) (came : Entry) → came ≡ entry_by h r i line.choice → (Agrees line came → ⊥)
-    → Agrees line (entry_by h r i line.choice) → ⊥
+pub unfit_by : (h : History) (r : Reached) (i : ℕ) (line : LogLine) (came : Observation) → came ≡ observation_by h r i line.choice → (Agrees line came → ⊥)
+    → Agrees line (observation_by h r i line.choice) → ⊥
 unfit_by h r i line came same unfit = λ agrees. unfit (subst (Agrees line) (sym same) agrees)
 
 -- a line that leads on still does
 leads_on : (h : History) (r new : Reached) (i : ℕ) (x : Actor) (line : LogLine) → Extends r new → i < length r.visited → LeadsOn h r i x line
     → LeadsOn h new i x line
 leads_on h r new i x line e lt leads =
-    leads_by h r new i x line (entry_by h r i line.choice) (advanced x (cursors_at r i)) e lt refl leads.agrees refl (known_on h r new _ _ e leads.known)
+    leads_by h r new i x line (observation_by h r i line.choice) (advanced x (cursors_at r i)) e lt refl leads.agrees refl (known_on h r new _ _ e leads.known)
 
 -- where all steps were followed they still are
 all_on : (h : History) (l : Logs) (r new : Reached) (i : ℕ) → Extends r new → i < length r.visited → FollowsAll h l r i → FollowsAll h l new i

@@ -9,7 +9,7 @@ use Rattle.zy_isa.specs.declared.node.Actor.TheVariants.{C, A, B}
 use Rattle.zy_isa.specs.declared.choice.Choice.{Choice}
 use Rattle.zy_isa.specs.Choices.{actor_of, names_below}
 use Rattle.zy_isa.specs.Scenario.{Scenario, AreNamed}
-use Rattle.zy_table.specs.declared.entry.Entry.{Entry}
+use Rattle.zy_table.specs.declared.observation.Observation.{Observation}
 use Rattle.zy_table.specs.State.{State}
 use Rattle.zy_table.specs.Play.{play, step}
 use Rattle.zy_logs.specs.declared.log_line.LogLine.{LogLine}
@@ -17,7 +17,7 @@ use Rattle.zy_order.specs.declared.logs.Logs.{Logs}
 use Rattle.zy_order.specs.declared.cursors.Cursor.{Cursor}
 use Rattle.zy_order.specs.declared.cursors.Cursors.{Cursors}
 use Rattle.zy_order.specs.Gaps.{gaps_of}
-use Rattle.zy_order.specs.Orders.{entry_at}
+use Rattle.zy_table.specs.Observations.{observation_at}
 use Rattle.zy_order.specs.Ways.{log_of, cursor_of, cursor, at_start, gap_at, passed, filled, with_cursor, step_count}
 use Rattle.zy_order.specs.Ways.{AreMatched, IsIn, IsWithin, HasNext, Leads, IsWay, AreLinesOf}
 
@@ -88,9 +88,9 @@ on_moved A l g k w is more = record { within = record { of_c = w.of_c; of_a = is
 on_moved B l g k w is more = record { within = record { of_c = w.of_c; of_a = w.of_a; of_b = is }; more = omega (arith, more) }
 
 -- so it does by each step
-pub on_by : (count : ℕ) (l : Logs) (g : Cursors) (e : Entry) (to : Cursors) → HaveGaps l → IsWithin l g → Leads count l g e to → IsOn l g to
-on_by count l g e to many w leads =
-    let x = actor_of e.choice in
+pub on_by : (count : ℕ) (l : Logs) (g : Cursors) (o : Observation) (to : Cursors) → HaveGaps l → IsWithin l g → Leads count l g o to → IsOn l g to
+on_by count l g o to many w leads =
+    let x = actor_of o.entry.choice in
     let log = log_of x l in
     let gaps = gaps_of x l.gaps in
     let k = cursor_of x g in
@@ -121,7 +121,7 @@ pub along : (sc : Scenario) (l : Logs) (g : Cursors) (s : State) (cs : List Choi
     → IsAlong l g cs to
 along sc l g s [] to many w way = subst (IsAlong l g []) way (record { within = w; more = omega arith })
 along sc l g s (c ∷ cs) to many w way =
-    let on = on_by (length sc.programs) l g (entry_at sc s c) way.0 many w way.1 in
+    let on = on_by (length sc.programs) l g (observation_at sc s c) way.0 many w way.1 in
     let rest = along sc l way.0 (step sc c s).after cs to many on.within way.2 in
     record { within = rest.within; more = omega (arith, on.more, rest.more) }
 
@@ -159,9 +159,9 @@ pub next_part : (x : Actor) (l : Logs) (g : Cursors) (line : LogLine) → slice_
 next_part x l g line next end = absurd (omega (arith, matched_of x l g end, slice_get_within (log_of x l) (cursor x g) line next))
 
 -- a line that fits where an actor is is its next one
-pub same_line : (l : Logs) (g : Cursors) (e : Entry) (x : Actor) (line : LogLine) → actor_of e.choice ≡ x
-    → slice_get (log_of x l) (cursor x g) ≡ Some line → (fits : HasNext l g e) → line ≡ fits.line
-same_line l g e x line own next fits =
+pub same_line : (l : Logs) (g : Cursors) (o : Observation) (x : Actor) (line : LogLine) → actor_of o.entry.choice ≡ x
+    → slice_get (log_of x l) (cursor x g) ≡ Some line → (fits : HasNext l g o) → line ≡ fits.line
+same_line l g o x line own next fits =
     let here : slice_get (log_of x l) (cursor x g) ≡ Some fits.line =
     subst (λ (y : Actor). slice_get (log_of y l) (cursor y g) ≡ Some fits.line) own fits.next in
     let both : Some line ≡ Some fits.line = sym next ∙ here in
@@ -195,11 +195,11 @@ way_fewer sc l s cs to many way part =
     omega (arith, is.more, possible_fewer l to many is.within part)
 
 -- where each line names a transaction that is there, each choice that leads on does
-leads_named : (count : ℕ) (l : Logs) (g : Cursors) (e : Entry) (to : Cursors) → ((x : Actor) → AreLinesOf count x (log_of x l)) → Leads count l g e to
-    → names_below count e.choice ≡ true
-leads_named count l g e to lines leads =
+leads_named : (count : ℕ) (l : Logs) (g : Cursors) (o : Observation) (to : Cursors) → ((x : Actor) → AreLinesOf count x (log_of x l)) → Leads count l g o to
+    → names_below count o.entry.choice ≡ true
+leads_named count l g o to lines leads =
     elim leads [
-      | inl by ↦ subst (λ (d : Choice). names_below count d ≡ true) by.0.choice ((lines (actor_of e.choice) _ by.0.line by.0.next).1)
+      | inl by ↦ subst (λ (d : Choice). names_below count d ≡ true) by.0.choice ((lines (actor_of o.entry.choice) _ by.0.line by.0.next).1)
       | inr by ↦ by.0.named
     ]
 
@@ -209,19 +209,19 @@ pub way_named : (sc : Scenario) (l : Logs) (g : Cursors) (s : State) (cs : List 
     → AreNamed (length sc.programs) cs
 way_named sc l g s [] to lines way = tt
 way_named sc l g s (c ∷ cs) to lines way =
-    (leads_named (length sc.programs) l g (entry_at sc s c) way.0 lines way.1, way_named sc l way.0 (step sc c s).after cs to lines way.2)
+    (leads_named (length sc.programs) l g (observation_at sc s c) way.0 lines way.1, way_named sc l way.0 (step sc c s).after cs to lines way.2)
 
 -- a way goes on by a step
 pub way_push : (sc : Scenario) (l : Logs) (g : Cursors) (s : State) (cs : List Choice) (to : Cursors) (c : Choice) (on : Cursors) → IsWay sc l g s cs to
-    → Leads (length sc.programs) l to (entry_at sc (play sc s cs) c) on
+    → Leads (length sc.programs) l to (observation_at sc (play sc s cs) c) on
     → IsWay sc l g s (cs ++ c ∷ []) on
 way_push sc l g s [] to c on way leads =
-    (on, subst (λ (f : Cursors). Leads (length sc.programs) l f (entry_at sc s c) on) (sym way) leads, refl)
+    (on, subst (λ (f : Cursors). Leads (length sc.programs) l f (observation_at sc s c) on) (sym way) leads, refl)
 way_push sc l g s (d ∷ cs) to c on way leads = (way.0, way.1, way_push sc l way.0 (step sc d s).after cs to c on way.2 leads)
 
 -- so a way that a step may follow has fewer choices than the logs have room for steps
 pub way_room : (sc : Scenario) (l : Logs) (s : State) (cs : List Choice) (to : Cursors) (c : Choice) (on : Cursors) → HaveGaps l
-    → IsWay sc l at_start s cs to → Leads (length sc.programs) l to (entry_at sc (play sc s cs) c) on
+    → IsWay sc l at_start s cs to → Leads (length sc.programs) l to (observation_at sc (play sc s cs) c) on
     → length cs < step_count l
 way_room sc l s cs to c on many way leads =
     omega (arith, way_few sc l s (cs ++ c ∷ []) on many (way_push sc l at_start s cs to c on way leads), length-append cs (c ∷ []))

@@ -4,23 +4,19 @@ use Rattle.std.specs.List.{filter}
 use Rattle.zy_isa.specs.declared.node.Actor.{Actor}
 use Rattle.zy_isa.specs.declared.choice.Choice.{Choice}
 use Rattle.zy_isa.specs.Scenario.{Scenario}
-use Rattle.zy_table.specs.declared.entry.Entry.{Entry}
 use Rattle.zy_table.specs.State.{State}
-use Rattle.zy_table.specs.Play.{step, entry_of}
+use Rattle.zy_table.specs.Play.{step}
+use Rattle.zy_table.specs.Observations.{observation_at}
 use Rattle.zy_threads.specs.Turns.{is_by}
 use Rattle.zy_logs.specs.declared.log_line.LogLine.{LogLine}
 use Rattle.zy_logs.specs.Agrees.{Agrees}
 use Rattle.zy_order.specs.declared.gaps.Gaps.{Gaps}
 use Rattle.zy_order.specs.Gaps.{gaps_of, Completes}
 
--- what comes of a choice in a state
-abbrev pub entry_at : Scenario → State → Choice → Entry
-entry_at sc s c = entry_of c (step sc c s)
-
--- lines fit a state: their choices are made from it, one after another, and each line agrees with the entry of its own
+-- lines fit a state: their choices are made from it, one after another, and each line agrees with what the step of its own shows
 abbrev pub Fits : Scenario → State → List LogLine → Type 0
 Fits sc s [] = Unit {0}
-Fits sc s (line ∷ lines) = Agrees line (entry_at sc s line.choice) × Fits sc (step sc line.choice s).after lines
+Fits sc s (line ∷ lines) = Agrees line (observation_at sc s line.choice) × Fits sc (step sc line.choice s).after lines
 
 -- the log of an actor: those of the lines that are its own, in order
 abbrev pub lines_of : Actor → List LogLine → List LogLine

@@ -8,9 +8,10 @@ use Rattle.zy_isa.specs.declared.node.Node.{Node}
 use Rattle.zy_isa.specs.declared.choice.Choice.{Choice}
 use Rattle.zy_isa.specs.declared.choice.Choice.TheVariants.{Run}
 use Rattle.zy_isa.specs.Choices.{actor_of, actor_at, names_below}
-use Rattle.zy_table.specs.declared.entry.Entry.{Entry}
+use Rattle.zy_table.specs.declared.observation.Observation.{Observation}
 use Rattle.zy_table.specs.State.{State}
 use Rattle.zy_table.specs.Play.{step}
+use Rattle.zy_table.specs.Observations.{observation_at}
 use Rattle.zy_machine.specs.Histories.{History, IsReplay}
 use Rattle.zy_logs.specs.Agrees.{Agrees}
 use Rattle.zy_patterns.specs.declared.patterns.OutcomePattern.{OutcomePattern}
@@ -36,7 +37,6 @@ use Rattle.zy_order.specs.declared.follow.Followed.TheVariants as followed
 use Rattle.zy_order.specs.declared.line.Met.{Met}
 use Rattle.zy_order.specs.declared.line.Met.TheVariants as met
 use Rattle.zy_order.specs.Answers.{HasEnd}
-use Rattle.zy_order.specs.Orders.{entry_at}
 use Rattle.zy_order.specs.Gaps.{gaps_of}
 use Rattle.zy_order.specs.Ways.{log_of, cursor, at_start, cursors_in, advanced, with_missing, step_count}
 use Rattle.zy_order.specs.Ways.{IsNoFurther, NeedNoMore, AreMatched, HasNext, HasGap, Leads, IsWay, AreLinesOf}
@@ -119,9 +119,9 @@ pub record Extends (old new : Reached) : Type 0 where
 
 -- ---- one choice more
 
--- what comes of a choice where the path at a place leads
-abbrev pub entry_by : History → Reached → ℕ → Choice → Entry
-entry_by h r i c = entry_at h.scenario (reached h (path_at r.visited i)) c
+-- what the step of a choice shows where the path at a place leads
+abbrev pub observation_by : History → Reached → ℕ → Choice → Observation
+observation_by h r i c = observation_at h.scenario (reached h (path_at r.visited i)) c
 
 -- the state after a choice where the path at a place leads
 abbrev pub state_by : History → Reached → ℕ → Choice → State
@@ -129,7 +129,7 @@ state_by h r i c = (step h.scenario c (reached h (path_at r.visited i))).after
 
 -- where the path at a place leads, the next line of an actor does not fit, or a path leads where its choice does
 abbrev pub IsMet : History → Logs → Reached → ℕ → Actor → Type 0
-IsMet h logs r i x = (c : Choice) → actor_of c ≡ x → HasNext logs (cursors_at r i) (entry_by h r i c)
+IsMet h logs r i x = (c : Choice) → actor_of c ≡ x → HasNext logs (cursors_at r i) (observation_by h r i c)
     → IsKnown h r (advanced x (cursors_at r i)) (state_by h r i c)
 
 -- where the path at a place leads, a choice may not be that of a missing step, or a path leads where it does
@@ -185,9 +185,9 @@ pub record MayBeAlone (n : Node) (logs : Logs) (cursors : Cursors) (line : LogLi
   pub tells : TellsDid line ⊎ TellsNothing line
   pub whole : HasGap (actor_at n) logs cursors → ⊥
 
--- where the path at a place leads, a line of an actor agrees with what comes of its choice, and a path leads where that does
+-- where the path at a place leads, a line of an actor agrees with what the step of its choice shows, and a path leads where that does
 pub record LeadsOn (h : History) (r : Reached) (i : ℕ) (x : Actor) (line : LogLine) : Type 0 where
-  pub agrees : Agrees line (entry_by h r i line.choice)
+  pub agrees : Agrees line (observation_by h r i line.choice)
   pub known : IsKnown h r (advanced x (cursors_at r i)) (state_by h r i line.choice)
 
 -- where the path at a place leads, a next line that may be followed alone leads on
@@ -255,7 +255,7 @@ pub record IsNext (h : History) (r : Reached) (at : ℕ) (c : Choice) (m : Histo
 
 -- what came of a line of an actor where the path at a place leads
 abbrev pub IsMetBy : History → Reached → ℕ → Actor → LogLine → Met → Type 0
-IsMetBy h r i x line met.Unfit = Agrees line (entry_by h r i line.choice) → ⊥
+IsMetBy h r i x line met.Unfit = Agrees line (observation_by h r i line.choice) → ⊥
 IsMetBy h r i x line met.Known = LeadsOn h r i x line
 IsMetBy h r i x line met.Spent = Unit {0}
 
@@ -263,7 +263,7 @@ IsMetBy h r i x line met.Spent = Unit {0}
 pub record GoesOn (s : Search) (here : Position) (c : Choice) (to : Cursors) : Type 0 where
   pub at : IsAt here s
   pub leads : Leads (length here.plan.now.start.scenario.programs) here.plan.now.logs (cursors_at s.reached here.at)
-      (entry_by here.plan.now.start s.reached here.at c) to
+      (observation_by here.plan.now.start s.reached here.at c) to
   pub next : IsNext here.plan.now.start s.reached here.at c s.twin
 
 -- a search went from old to new: each new path is to be followed, and each that was to be still is

@@ -5,9 +5,10 @@ use Rattle.zy_isa.specs.declared.node.Actor.TheVariants.{C, A, B}
 use Rattle.zy_isa.specs.declared.choice.Choice.{Choice}
 use Rattle.zy_isa.specs.Choices.{actor_of, names_below}
 use Rattle.zy_isa.specs.Scenario.{Scenario}
-use Rattle.zy_table.specs.declared.entry.Entry.{Entry}
+use Rattle.zy_table.specs.declared.observation.Observation.{Observation}
 use Rattle.zy_table.specs.State.{State}
 use Rattle.zy_table.specs.Play.{step}
+use Rattle.zy_table.specs.Observations.{observation_at}
 use Rattle.zy_logs.specs.declared.log_line.LogLine.{LogLine}
 use Rattle.zy_order.specs.declared.logs.Logs.{Logs}
 use Rattle.zy_order.specs.declared.cursors.Cursor.{Cursor}
@@ -15,7 +16,7 @@ use Rattle.zy_order.specs.declared.cursors.Cursors.{Cursors}
 use Rattle.zy_order.specs.declared.gaps.Gaps.{Gaps}
 use Rattle.zy_order.specs.Gaps.{gaps_of, gap_count}
 use Rattle.zy_logs.specs.Agrees.{Agrees}
-use Rattle.zy_order.specs.Orders.{entry_at, lines_of}
+use Rattle.zy_order.specs.Orders.{lines_of}
 
 -- the log of an actor
 abbrev pub log_of : Actor → Logs → List LogLine
@@ -120,12 +121,12 @@ pub record IsWithin (logs : Logs) (cursors : Cursors) : Type 0 where
   pub of_a : IsIn logs.a.items logs.gaps.a.items cursors.a
   pub of_b : IsIn logs.b.items logs.gaps.b.items cursors.b
 
--- the next line of the actor that made a step is of the step's choice, and agrees with what came of it
-pub record HasNext (logs : Logs) (cursors : Cursors) (e : Entry) : Type 0 where
+-- the next line of the actor that made a step is of the step's choice, and agrees with what it shows
+pub record HasNext (logs : Logs) (cursors : Cursors) (o : Observation) : Type 0 where
   pub line : LogLine
-  pub next : slice_get (log_of (actor_of e.choice) logs) (cursor (actor_of e.choice) cursors) ≡ Some line
-  pub choice : line.choice ≡ e.choice
-  pub agrees : Agrees line e
+  pub next : slice_get (log_of (actor_of o.entry.choice) logs) (cursor (actor_of o.entry.choice) cursors) ≡ Some line
+  pub choice : line.choice ≡ o.entry.choice
+  pub agrees : Agrees line o
 
 -- one step more may be missing where an actor is
 abbrev pub HasGap : Actor → Logs → Cursors → Type 0
@@ -137,14 +138,14 @@ pub record MayBeMissing (count : ℕ) (logs : Logs) (cursors : Cursors) (c : Cho
   pub gap : HasGap (actor_of c) logs cursors
 
 -- a step leads from cursors to others: it is the next line's, or it is missing
-abbrev pub Leads : ℕ → Logs → Cursors → Entry → Cursors → Type 0
-Leads count logs cursors e to = (HasNext logs cursors e × (to ≡ advanced (actor_of e.choice) cursors))
-    ⊎ (MayBeMissing count logs cursors e.choice × (to ≡ with_missing (actor_of e.choice) cursors))
+abbrev pub Leads : ℕ → Logs → Cursors → Observation → Cursors → Type 0
+Leads count logs cursors o to = (HasNext logs cursors o × (to ≡ advanced (actor_of o.entry.choice) cursors))
+    ⊎ (MayBeMissing count logs cursors o.entry.choice × (to ≡ with_missing (actor_of o.entry.choice) cursors))
 
 -- choices go along the logs to cursors, one step after another
 abbrev pub IsWay : Scenario → Logs → Cursors → State → List Choice → Cursors → Type 0
 IsWay sc logs cursors s [] to = cursors ≡ to
-IsWay sc logs cursors s (c ∷ cs) to = (next : Cursors) × Leads (length sc.programs) logs cursors (entry_at sc s c) next
+IsWay sc logs cursors s (c ∷ cs) to = (next : Cursors) × Leads (length sc.programs) logs cursors (observation_at sc s c) next
     × IsWay sc logs next (step sc c s).after cs to
 
 -- each line of a list is of a choice of the actor, and the transaction that it names is there

@@ -12,7 +12,7 @@ use zy_machine::Fault;
 /// What came of a line.
 #[derive(Clone, Copy)]
 pub(crate) enum Met {
-    /// It does not agree with what comes of its choice.
+    /// It does not agree with what the step of its choice shows.
     Unfit,
     /// It agrees, and a path leads where its choice does.
     Known,
@@ -22,7 +22,7 @@ pub(crate) enum Met {
 
 impl Search {
     /// Makes the choice of an actor's next line at a position, and keeps where it leads if the line agrees with what
-    /// comes of it.
+    /// its step shows.
     pub(crate) fn meet_line(
         &mut self,
         here: Position,
@@ -35,8 +35,8 @@ impl Search {
         ensures adds { OnOk result (Adds here.entry.plan.now self.old self.new) }
         ensures met { IfOk result (IsMetBy here.entry.plan.now.start self.new.reached here.entry.at actor line.now) }
     {
-        let entry = attempt(here.plan.alloc, here.machine, &mut self.twin, line.choice)?;
-        if !line.agrees(&entry) {
+        let shown = attempt(here.plan.alloc, here.machine, &mut self.twin, line.choice)?;
+        if !line.agrees(&shown) {
             return Ok(Met::Unfit);
         }
         let cursors = self.reached.cursors_at(here.at).advanced(actor);

@@ -1,5 +1,5 @@
 -- The run of the scenario that goes out.
-use Rattle.std.proofs.Common.{◌≡◌, ◌≤◌, ◌∙◌, ◌+◌, ◌++◌, ◌∷◌, ℕ, zero, suc, List, [], Bool, true, false, None, refl, sym, ap, subst, arith, length, length-append}
+use Rattle.std.proofs.Common.{◌≡◌, ◌≤◌, ◌∙◌, ◌+◌, ◌++◌, ◌∷◌, ℕ, zero, suc, List, [], Bool, true, false, None, Option, refl, sym, ap, subst, arith, length, length-append}
 use Rattle.std.proofs.lemmas.List.{length-map}
 use Rattle.std.specs.Prelude.{if◌then◌else◌, sum}
 use Rattle.std.proofs.lemmas.List.Sums.{sum_by-cons}
@@ -9,10 +9,14 @@ use Rattle.zy_isa.specs.declared.choice.Choice.{Choice}
 use Rattle.zy_isa.specs.Choices.{actor_of, names_below}
 use Rattle.zy_isa.specs.Limits.{max_choices}
 use Rattle.zy_isa.specs.Scenario.{Scenario, IsScenario, AreNamed}
-use Rattle.zy_table.specs.State.{State}
-use Rattle.zy_table.specs.Play.{step, play, opening, entries, entry_of}
+use Rattle.zy_table.specs.State.{State, Step}
+use Rattle.zy_isa.specs.declared.choice.Choice.TheVariants.{Run}
+use Rattle.zy_isa.specs.declared.instr.Reg.{Reg}
+use Rattle.zy_table.specs.declared.observation.Observation.{Observation}
+use Rattle.zy_table.specs.Play.{step, play, opening, entry_of}
+use Rattle.zy_table.specs.Observations.{observation_at, observations, register_of, value_after}
 use Rattle.zy_laws.specs.Orders.{reordered}
-use Rattle.zy_laws.proofs.walk.Reordered.{entries-reordered, opening-reordered}
+use Rattle.zy_laws.proofs.walk.Reordered.{one, opening-reordered}
 use Rattle.zy_logs.specs.declared.log_line.LogLine.{LogLine}
 use Rattle.zy_order.specs.Answers.{IsInput, MatchesAll, MatchesPrefixes}
 use Rattle.zy_order.specs.declared.gaps.Gaps.{Gaps}
@@ -27,24 +31,46 @@ use Rattle.zy_laws.proofs.walk.PlayPush.{length-entries}
 -- ---- its steps
 
 -- the steps of choices, and of others behind them
-entries-append : (sc : Scenario) (s : State) (cs ds : List Choice) → entries sc s (cs ++ ds) ≡ entries sc s cs ++ entries sc (play sc s cs) ds
-entries-append sc s [] ds = refl
-entries-append sc s (c ∷ cs) ds = ap (λ es. entry_of c (step sc c s) ∷ es) (entries-append sc (step sc c s).after cs ds)
+observations-append : (sc : Scenario) (s : State) (cs ds : List Choice)
+    → observations sc s (cs ++ ds) ≡ observations sc s cs ++ observations sc (play sc s cs) ds
+observations-append sc s [] ds = refl
+observations-append sc s (c ∷ cs) ds = ap (λ os. observation_at sc s c ∷ os) (observations-append sc (step sc c s).after cs ds)
+
+-- the register that a choice shows does not ask for the choices that the scenario itself names
+register-reordered : (sc : Scenario) (order : List Choice) (s : State) (c : Choice) → register_of (reordered sc order) s c ≡ register_of sc s c
+register-reordered sc order s (Run n t) = refl
+register-reordered sc order s c = refl
+
+-- nor does what a step shows
+observation-reordered : (sc : Scenario) (order : List Choice) (s : State) (c : Choice) → observation_at (reordered sc order) s c ≡ observation_at sc s c
+observation-reordered sc order s c =
+    ap (λ (x : Step). record { entry = entry_of c x; value = value_after c x.after x.outcome (register_of (reordered sc order) s c) }) (one sc order c s)
+    ∙ ap (λ (r : Option Reg). record { entry = entry_of c (step sc c s); value = value_after c (step sc c s).after (step sc c s).outcome r })
+    (register-reordered sc order s c)
+
+-- nor what many show
+observations-reordered : (sc : Scenario) (order : List Choice) (s : State) (cs : List Choice)
+    → observations (reordered sc order) s cs ≡ observations sc s cs
+observations-reordered sc order s [] = refl
+observations-reordered sc order s (c ∷ cs) =
+    ap (λ (o : Observation). o ∷ observations (reordered sc order) (step (reordered sc order) c s).after cs) (observation-reordered sc order s c)
+    ∙ (ap (λ (x : Step). observation_at sc s c ∷ observations (reordered sc order) x.after cs) (one sc order c s)
+    ∙ ap (λ os. observation_at sc s c ∷ os) (observations-reordered sc order (step sc c s).after cs))
 
 -- lines that fit agree with the steps of their choices
-agree_each : (sc : Scenario) (s : State) (lines : List LogLine) → Fits sc s lines → AgreeEach lines (entries sc s (choices_of lines))
+agree_each : (sc : Scenario) (s : State) (lines : List LogLine) → Fits sc s lines → AgreeEach lines (observations sc s (choices_of lines))
 agree_each sc s [] fits = tt
 agree_each sc s (line ∷ lines) fits = (refl, fits.0, agree_each sc (step sc line.choice s).after lines fits.1)
 
 -- with the choices of lines behind its own the run makes a step for each of the lines
 steps_behind : (sc : Scenario) (order : List LogLine) (cs : List Choice) → cs ≡ choices_of order
-    → steps_of (extended sc cs) ≡ steps_of sc ++ entries sc (play sc (opening sc) sc.choices) (choices_of order)
+    → steps_of (extended sc cs) ≡ steps_of sc ++ observations sc (play sc (opening sc) sc.choices) (choices_of order)
 steps_behind sc order cs is =
     let after = play sc (opening sc) sc.choices in
     let choices = sc.choices ++ cs in
-    ap (λ s. entries (reordered sc choices) s choices) (opening-reordered sc choices)
-    ∙ (entries-reordered sc choices (opening sc) choices
-    ∙ (entries-append sc (opening sc) sc.choices cs ∙ ap (λ ds. steps_of sc ++ entries sc after ds) is))
+    ap (λ s. observations (reordered sc choices) s choices) (opening-reordered sc choices)
+    ∙ (observations-reordered sc choices (opening sc) choices
+    ∙ (observations-append sc (opening sc) sc.choices cs ∙ ap (λ ds. steps_of sc ++ observations sc after ds) is))
 
 -- the run makes a step for each line of an order of prefixes
 begun_by : (sc : Scenario) (lines : List LogLine) (gaps : Gaps) (taken : Actor → ℕ) (order : List LogLine) (cs : List Choice)
@@ -54,7 +80,7 @@ begun_by sc lines gaps taken order cs is same =
     record {
       order = order;
       merges = is.merges;
-      steps = entries sc after (choices_of order);
+      steps = observations sc after (choices_of order);
       behind = steps_behind sc order cs same;
       agree = agree_each sc after order is.fits;
     }

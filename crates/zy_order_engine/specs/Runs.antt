@@ -2,8 +2,9 @@
 use Rattle.std.specs.Prelude.{◌≡◌, ◌++◌, ℕ, List, [], ◌∷◌}
 use Rattle.zy_isa.specs.declared.choice.Choice.{Choice}
 use Rattle.zy_isa.specs.Scenario.{Scenario}
-use Rattle.zy_table.specs.declared.entry.Entry.{Entry}
-use Rattle.zy_table.specs.Play.{opening, entries}
+use Rattle.zy_table.specs.declared.observation.Observation.{Observation}
+use Rattle.zy_table.specs.Play.{opening}
+use Rattle.zy_table.specs.Observations.{observations}
 use Rattle.zy_laws.specs.Orders.{reordered}
 use Rattle.zy_logs.specs.declared.log_line.LogLine.{LogLine}
 use Rattle.zy_logs.specs.Agrees.{Agrees}
@@ -15,23 +16,23 @@ use Rattle.zy_order.specs.Orders.{Merges, all_of}
 abbrev pub extended : Scenario → List Choice → Scenario
 extended sc cs = reordered sc (sc.choices ++ cs)
 
--- the steps of a scenario's run
-abbrev pub steps_of : Scenario → List Entry
-steps_of sc = entries sc (opening sc) sc.choices
+-- what the steps of a scenario's run show
+abbrev pub steps_of : Scenario → List Observation
+steps_of sc = observations sc (opening sc) sc.choices
 
 -- each line is of the step in its place, and agrees with it
-abbrev pub AgreeEach : List LogLine → List Entry → Type 0
+abbrev pub AgreeEach : List LogLine → List Observation → Type 0
 AgreeEach [] [] = Unit {0}
-AgreeEach [] (e ∷ es) = ⊥
+AgreeEach [] (o ∷ os) = ⊥
 AgreeEach (line ∷ lines) [] = ⊥
-AgreeEach (line ∷ lines) (e ∷ es) = (e.choice ≡ line.choice) × Agrees line e × AgreeEach lines es
+AgreeEach (line ∷ lines) (o ∷ os) = (o.entry.choice ≡ line.choice) × Agrees line o × AgreeEach lines os
 
 -- the run of the scenario with these choices behind its own has the same steps, and behind them one for each line of a
 -- merge of completions of the logs, which takes these numbers of lines
 pub record RunsPrefix (sc : Scenario) (lines : List LogLine) (gaps : Gaps) (taken : Actor → ℕ) (cs : List Choice) : Type 0 where
   pub order : List LogLine
   pub merges : Merges sc lines gaps taken order
-  pub steps : List Entry
+  pub steps : List Observation
   pub behind : steps_of (extended sc cs) ≡ steps_of sc ++ steps
   pub agree : AgreeEach order steps
 

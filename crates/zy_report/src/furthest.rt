@@ -6,7 +6,7 @@ use crate::origin::Origin;
 use crate::summary::Count;
 use std::alloc::{AllocError, Global};
 use std::fmt::{self, Formatter, Write};
-use zy_io::{Line, LineBuffer};
+use zy_io::{Decimal, Line, LineBuffer, joined};
 use zy_isa::{Actor, Choice, MAX_CHOICES};
 use zy_listing::StepLine;
 use zy_logs::{LogLine, Logged, NumberedLine};
@@ -14,7 +14,7 @@ use zy_machine::{Fault, Machine};
 use zy_order::Taken;
 use zy_order_engine::{LogFormat, OrderedLogs};
 use zy_source_words::{Position, SourceLine};
-use zy_table::{Entry, Outcome};
+use zy_table::{Entry, Observation, Outcome};
 
 /// How many lines of an actor an order takes.
 fn taken_of(taken: Taken, actor: Actor) -> usize {
@@ -117,24 +117,24 @@ impl<'a> Furthest<'a> {
         None
     }
 
-    /// The step that comes at its end of the choice of a line that does not fit there.
-    fn instead(&self, alloc: Global, line: LogLine) -> Result<Option<Entry>, Fault> {
+    /// What the step shows that comes at its end of the choice of a line that does not fit there.
+    fn instead(&self, alloc: Global, line: LogLine) -> Result<Option<Observation>, Fault> {
         let mut machine = self.machine.copy(alloc)?;
-        let entry = disagreeing(&mut machine, line);
+        let shown = disagreeing(&mut machine, line);
         machine.discard();
-        entry
+        shown
     }
 
     /// The first line of the client that does not fit where those before it are made behind its end, on a machine that is there,
-    /// and the step that comes in its place.
-    fn later(&self, machine: &mut Machine) -> Result<Option<(NumberedStep, Entry)>, Fault> {
+    /// and what the step shows that comes in its place.
+    fn later(&self, machine: &mut Machine) -> Result<Option<(NumberedStep, Observation)>, Fault> {
         let mut passed = 0usize;
         for line in self.lines {
             if let Some(next) = step_by(line, Actor::C) {
                 if passed < self.taken.c {
                     passed = passed.saturating_add(1);
-                } else if let Some(entry) = disagreeing(machine, next.step)? {
-                    return Ok(Some((next, entry)));
+                } else if let Some(shown) = disagreeing(machine, next.step)? {
+                    return Ok(Some((next, shown)));
                 }
             }
         }
@@ -168,21 +168,21 @@ impl<'a> Furthest<'a> {
         rt: &R,
         file: Option<&str>,
         input: &[u8],
-        next: &Option<(NumberedStep, Entry)>,
+        next: &Option<(NumberedStep, Observation)>,
         may_be_early: bool,
     ) {
-        if let Some((line, entry)) = next {
-            if self.may_be_early(entry) == may_be_early {
-                self.tell_line(rt, file, input, *line, entry);
+        if let Some((line, shown)) = next {
+            if self.may_be_early(&shown.entry) == may_be_early {
+                self.tell_line(rt, file, input, *line, shown);
             }
         }
     }
 
-    /// The next line of an actor, if it does not fit, and the step that comes in its place. Out of memory it is none.
-    fn unfit(&self, alloc: Global, actor: Actor) -> Option<(NumberedStep, Entry)> {
+    /// The next line of an actor, if it does not fit, and what the step shows that comes in its place. Out of memory it is none.
+    fn unfit(&self, alloc: Global, actor: Actor) -> Option<(NumberedStep, Observation)> {
         let next = self.next(actor)?;
         match self.instead(alloc, next.step) {
-            Ok(Some(entry)) => Some((next, entry)),
+            Ok(Some(shown)) => Some((next, shown)),
             _ => None,
         }
     }
@@ -208,8 +208,8 @@ impl<'a> Furthest<'a> {
         if let Ok(mut machine) = self.machine.copy(rt.alloc()) {
             let later = self.later(&mut machine);
             machine.discard();
-            if let Ok(Some((line, entry))) = later {
-                self.tell_line(rt, file, input, line, &entry);
+            if let Ok(Some((line, shown))) = later {
+                self.tell_line(rt, file, input, line, &shown);
             }
         }
     }
@@ -221,15 +221,15 @@ impl<'a> Furthest<'a> {
         file: Option<&str>,
         input: &[u8],
         line: NumberedStep,
-        entry: &Entry,
+        shown: &Observation,
     ) {
-        if let Ok(step) = step_line(rt.alloc(), entry) {
+        if let Ok(step) = step_line(rt.alloc(), shown, line.step.value.is_some()) {
             let unfit = Unfit {
                 file,
                 number: line.number,
                 bytes: told_bytes(self.logs, input, line.number),
                 came: behind_arrow(step.as_bytes()),
-                may_be_early: self.may_be_early(entry),
+                may_be_early: self.may_be_early(&shown.entry),
             };
             let _ = eprintln!(rt; "{unfit}");
         }
@@ -245,23 +245,32 @@ fn told_bytes(logs: LogFormat, input: &[u8], number: usize) -> &[u8] {
     }
 }
 
-/// Makes the choice of a line on a machine, if it may be made there, and returns the step where the line does not agree with it.
-fn disagreeing(machine: &mut Machine, line: LogLine) -> Result<Option<Entry>, Fault> {
+/// Makes the choice of a line on a machine, if it may be made there, and returns what its step shows where the line does not agree
+/// with it.
+fn disagreeing(machine: &mut Machine, line: LogLine) -> Result<Option<Observation>, Fault> {
     let count = machine.scenario().programs().len();
     if !line.choice.names_below(count) || MAX_CHOICES <= machine.len() {
         return Ok(None);
     }
-    let entry = machine.step(line.choice)?;
-    if line.agrees(&entry) {
+    let shown = machine.observe(line.choice)?;
+    if line.agrees(&shown) {
         return Ok(None);
     }
-    Ok(Some(entry))
+    Ok(Some(shown))
 }
 
-/// A step, as a listing has it.
-fn step_line(alloc: Global, entry: &Entry) -> Result<LineBuffer, AllocError> {
+/// A step as a listing has it and, where it is asked for, its value behind it: a step that has one sends no message.
+fn step_line(
+    alloc: Global,
+    shown: &Observation,
+    with_value: bool,
+) -> Result<LineBuffer, AllocError> {
     let mut line = LineBuffer::new(alloc);
+    let entry = &shown.entry;
     StepLine { number: 1, entry }.append(&mut line)?;
+    if let (Some(value), true) = (shown.value, with_value) {
+        joined!(" ", Decimal(value)).append(&mut line)?;
+    }
     Ok(line)
 }
 
