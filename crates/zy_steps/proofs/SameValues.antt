@@ -1,5 +1,5 @@
 -- The value that a step shows, where the same was done from another state.
-use Rattle.std.proofs.Common.{◌≡◌, ◌∙◌, ℕ, List, refl, sym, ap, true, Option, None}
+use Rattle.std.proofs.Common.{◌≡◌, ◌∙◌, ℕ, refl, ap, Option, None}
 use Rattle.std.specs.Prelude.{slice_get}
 use Rattle.std.specs.Option.{option_and_then}
 use Rattle.zy_isa.specs.declared.node.Node.{Node}
@@ -10,7 +10,7 @@ use Rattle.zy_isa.specs.Scenario.{Scenario}
 use Rattle.zy_table.specs.declared.outcome.Outcome.{Outcome}
 use Rattle.zy_table.specs.declared.outcome.Outcome.TheVariants.{Did}
 use Rattle.zy_table.specs.State.{State, Txn, facing}
-use Rattle.zy_table.specs.Change.{txn_at, txn_or}
+use Rattle.zy_table.specs.Change.{txn_at}
 use Rattle.zy_table.specs.Run.{program_of}
 use Rattle.zy_table.specs.Play.{step}
 use Rattle.zy_table.specs.Observations.{shown_register, txn_of, register_of, value_in, value_of}
