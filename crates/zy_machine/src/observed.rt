@@ -33,6 +33,8 @@ impl Machine {
         requires { names_below (length self.now.scenario.programs) choice ≡ true }
         ensures { result ≡ spec.value_after choice self.now.state outcome register }
     {
+        // Proof: there is a transaction for each program of its scenario.
+        let _ = self.scenario();
         match (choice, outcome, register) {
             (Choice::Run(_, t), Outcome::Did, Some(register)) => {
                 Some(self.txn(t).regs()[register.index()])
