@@ -1,12 +1,12 @@
--- A line that leaves nothing of a step out is read as that.
+-- A line that leaves nothing of what a step shows out is read as that.
 use Rattle.std.proofs.Common.{◌≡◌, ◌∙◌, ℕ, ◌^◌, ◌<◌, ◌≤◌, true, false, ◌==◌, nat_le, nat_lt, List, [], ◌∷◌, ◌++◌, length, codes, Some, None, Option}
-use Rattle.std.proofs.Common.{Ok, refl, ap, arith, if◌then◌else◌}
+use Rattle.std.proofs.Common.{Bool, IfSome, Ok, refl, ap, arith, if◌then◌else◌}
 use Rattle.std.specs.Fmt.{decimal}
 use Rattle.std.specs.Char.{is_ascii_digit}
 use Rattle.std.specs.Str.{all_ascii_digits}
 use Rattle.std.proofs.lemmas.Bool.{le-leb, lt-ltb}
 use borrow.Author.Tests.{tests}
-use Rattle.zy_isa.specs.Limits.{max_key, max_txns}
+use Rattle.zy_isa.specs.Limits.{max_key, max_txns, max_value}
 use Rattle.zy_isa.specs.declared.node.Node.{Node}
 use Rattle.zy_isa.specs.declared.node.Node.TheVariants.{A, B}
 use Rattle.zy_isa.specs.declared.choice.Choice.{Choice}
@@ -16,7 +16,7 @@ use Rattle.zy_isa.specs.Results.{◌>>=◌}
 use Rattle.zy_isa.proofs.ResultLemmas.{both}
 use Rattle.zy_model.specs.declared.kind.Kind.{Kind}
 use Rattle.zy_model.specs.declared.kind.Kind.TheVariants as kind
-use Rattle.zy_table.specs.declared.entry.Entry.{Entry}
+use Rattle.zy_table.specs.declared.observation.Observation.{Observation}
 use Rattle.zy_table.specs.declared.outcome.Why.{Why}
 use Rattle.zy_table.specs.declared.outcome.Why.TheVariants as why
 use Rattle.zy_table.specs.declared.outcome.Outcome.{Outcome}
@@ -36,12 +36,12 @@ use Rattle.zy_logs.specs.declared.expected.ExpectedInLog.TheVariants as expected
 use Rattle.zy_logs.specs.declared.log_line.LogLine.{LogLine}
 use Rattle.zy_logs.specs.declared.log_line.Logged.TheVariants.{Step}
 use Rattle.zy_logs.specs.declared.txns.Txns.{Txns}
-use Rattle.zy_logs.specs.InFull.{in_full, IsPage, HasPage, IsTold, reason_words, outcome_words, sent_words, step_words}
+use Rattle.zy_logs.specs.InFull.{in_full, IsPage, HasPage, IsTold, IsShown, reason_words, outcome_words, value_words, sent_words, step_words}
 use Rattle.zy_logs.specs.Words.{Word, Read, after, are_none, begin_with, end_outcome, refused, gives, made}
 use Rattle.zy_logs.specs.Txns.{named}
-use Rattle.zy_logs.specs.Parts.{or_none, number, page, place, numbered, txn, node_at, reason}
+use Rattle.zy_logs.specs.Parts.{or_none, number, page, place, value, numbered, txn, node_at, reason}
 use Rattle.zy_logs.specs.Lines as line
-use Rattle.zy_logs.specs.Lines.{split, outcome_of, choice_of, possible, told_of, logged, message, sent_of, whole, gap_or_step, placed, line_of}
+use Rattle.zy_logs.specs.Lines.{split, outcome_of, choice_of, possible, told_of, logged, is_did, value_of, message, sent_of, whole, gap_or_step, placed, line_of}
 use Rattle.zy_logs.specs.Possible.{can_give}
 use Rattle.zy_text.proofs.WordLemmas.{number_of-decimal, digits_of, decimal_some}
 
@@ -278,23 +278,45 @@ sent_given (Some kind.Page) = refl
 sent_given (Some kind.Finish) = refl
 sent_given (Some kind.Done) = refl
 
--- all of a step
-whole_given : (txns : Txns) (e : Entry) → txns.count ≤ 64 → names_below txns.count e.choice ≡ true → IsTold txns.count e.outcome
-    → can_give e.choice (exactly e.outcome) ≡ true → whole txns (step_words e) ≡ Ok (in_full e, [])
-whole_given txns e most named h can =
-    let third : Choice → Option OutcomePattern → Read (Option Kind) → Read LogLine = λ c t r. r >>= λ k.
-    if are_none k.1 then Ok (record { choice = c; told = t; sent = k.0 }, k.1) else refused expected.End k.1 in
-    let second : Choice → Read (Option OutcomePattern) → Read LogLine = λ c r. r >>= λ t. third c t.0 (sent_of t.1) in
-    let all : Read Choice → Read LogLine = λ r. r >>= λ c. second c.0 (told_of txns c.0 c.1) in
-    ap all (choice_given txns e.choice (codes "->" ∷ (outcome_words e.outcome ++ sent_words e.sent)) most named)
-    ∙ ap (second e.choice) (told_given txns e.choice e.outcome (sent_words e.sent) most h can)
-    ∙ ap (third e.choice (Some (exactly e.outcome))) (sent_given e.sent)
+-- no value comes before it
+no_value : (did : Bool) (k : Option Kind) → (if did then or_none value (sent_words k) else Ok (None, sent_words k)) ≡ Ok (None, sent_words k)
+no_value true None = refl
+no_value true (Some k) = refl
+no_value false k = refl
 
--- the words of a step are a line of a log, which leaves nothing of it out
-pub step_given : (txns : Txns) (e : Entry) → txns.count ≤ 64 → names_below txns.count e.choice ≡ true → IsTold txns.count e.outcome
-    → can_give e.choice (exactly e.outcome) ≡ true → line_of txns (step_words e) ≡ Ok (Step (in_full e))
-step_given txns e most named h can =
-    let ws = step_words e in
+-- the value, which only `did` has
+value_given : (o : Outcome) (v : Option ℕ) (k : Option Kind) → IfSome v (λ n. (n ≤ max_value) × (o ≡ outcome.Did))
+    → value_of (Some (exactly o)) (value_words v ++ sent_words k) ≡ Ok (v, sent_words k)
+value_given o None k h = no_value (is_did (Some (exactly o))) k
+value_given o (Some n) k h =
+    let rest = sent_words k in
+    let few : n < 2 ^ 32 = omega (arith, h.0) in
+    ap (λ came. value_of (Some (exactly came)) (decimal n ∷ rest)) h.1
+    ∙ given value (decimal n ∷ rest) rest n (goes_on (decimal n) rest (decimal_digits n few))
+    (number_given max_value n (decimal n) rest (number_of-decimal n few) h.0)
+
+-- all of a step
+whole_given : (txns : Txns) (o : Observation) → txns.count ≤ 64 → names_below txns.count o.entry.choice ≡ true → IsTold txns.count o.entry.outcome
+    → can_give o.entry.choice (exactly o.entry.outcome) ≡ true → IsShown o → whole txns (step_words o) ≡ Ok (in_full o, [])
+whole_given txns o most named h can shown =
+    let e = o.entry in
+    let told = exactly e.outcome in
+    let last : Choice → Option OutcomePattern → Option ℕ → Read (Option Kind) → Read LogLine = λ c t v r. r >>= λ k.
+    if are_none k.1 then Ok (record { choice = c; told = t; value = v; sent = k.0 }, k.1) else refused expected.End k.1 in
+    let third : Choice → Option OutcomePattern → Read (Option ℕ) → Read LogLine = λ c t r. r >>= λ v. last c t v.0 (sent_of v.1) in
+    let second : Choice → Read (Option OutcomePattern) → Read LogLine = λ c r. r >>= λ t. third c t.0 (value_of t.0 t.1) in
+    let all : Read Choice → Read LogLine = λ r. r >>= λ c. second c.0 (told_of txns c.0 c.1) in
+    let rest = value_words o.value ++ sent_words e.sent in
+    ap all (choice_given txns e.choice (codes "->" ∷ (outcome_words e.outcome ++ rest)) most named)
+    ∙ ap (second e.choice) (told_given txns e.choice e.outcome rest most h can)
+    ∙ ap (third e.choice (Some told)) (value_given e.outcome o.value e.sent shown)
+    ∙ ap (last e.choice (Some told) o.value) (sent_given e.sent)
+
+-- the words of all that a step shows are a line of a log, which leaves nothing of it out
+pub step_given : (txns : Txns) (o : Observation) → txns.count ≤ 64 → names_below txns.count o.entry.choice ≡ true → IsTold txns.count o.entry.outcome
+    → can_give o.entry.choice (exactly o.entry.outcome) ≡ true → IsShown o → line_of txns (step_words o) ≡ Ok (Step (in_full o))
+step_given txns o most named h can shown =
+    let ws = step_words o in
     ap (λ b. placed (length ws) (if b then line.gap ws else made Step (whole txns ws)))
-    (no_gap e.choice (codes "->" ∷ (outcome_words e.outcome ++ sent_words e.sent)))
-    ∙ ap (λ r. placed (length ws) (made Step r)) (whole_given txns e most named h can)
+    (no_gap o.entry.choice (codes "->" ∷ (outcome_words o.entry.outcome ++ (value_words o.value ++ sent_words o.entry.sent))))
+    ∙ ap (λ r. placed (length ws) (made Step r)) (whole_given txns o most named h can shown)

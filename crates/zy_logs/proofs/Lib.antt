@@ -2,3 +2,4 @@ pub mod NamedLemmas
 pub mod PossibleSteps
 pub mod Worked
 pub mod FullLemmas
+mod ShownLemmas

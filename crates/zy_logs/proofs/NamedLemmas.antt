@@ -27,7 +27,7 @@ use Rattle.zy_logs.specs.Words.{Word, Read, first, after, are_none, begin_with, 
 use Rattle.zy_logs.specs.Txns.{below}
 use Rattle.zy_text.specs.Names.{place_among}
 use Rattle.zy_logs.specs.Parts.{txn}
-use Rattle.zy_logs.specs.Lines.{client_choice, node_choice, choice_of, told_of, sent_of, whole, whose, gap_end, gap, gap_or_step, placed, line_of}
+use Rattle.zy_logs.specs.Lines.{client_choice, node_choice, choice_of, told_of, value_of, sent_of, whole, whose, gap_end, gap, gap_or_step, placed, line_of}
 use Rattle.zy_logs.specs.Logs.{in_line, steps_of, steps_in, fitting, line_at, listed, joined, lines_from, logs_of, choices_of}
 
 -- ---- the number of a transaction
@@ -122,25 +122,32 @@ ReadNamed count (Ok x) = names_below count x.0.choice ≡ true
 ReadNamed count (Err s) = Unit {0}
 
 -- what is made of the parts of a line, where nothing comes after them
-abbrev ended : Choice → Option OutcomePattern → (Option Kind) × List Word → Read LogLine
-ended c t k = if are_none k.1 then Ok (record { choice = c; told = t; sent = k.0 }, k.1) else refused expected.End k.1
+abbrev ended : Choice → Option OutcomePattern → Option ℕ → (Option Kind) × List Word → Read LogLine
+ended c t v k = if are_none k.1 then Ok (record { choice = c; told = t; value = v; sent = k.0 }, k.1) else refused expected.End k.1
 
 -- the parts after the choice do not change it
-named_ended : (count : ℕ) (c : Choice) (t : Option OutcomePattern) (k : (Option Kind) × List Word) → names_below count c ≡ true → ReadNamed count (ended c t k)
-named_ended count c t k e = elim (are_none k.1) as (λ (b : Bool). ReadNamed count
-    (if b then Ok (record { choice = c; told = t; sent = k.0 }, k.1) else refused expected.End k.1)) [ true ↦ e | false ↦ tt ]
+named_ended : (count : ℕ) (c : Choice) (t : Option OutcomePattern) (v : Option ℕ) (k : (Option Kind) × List Word) → names_below count c ≡ true
+    → ReadNamed count (ended c t v k)
+named_ended count c t v k e = elim (are_none k.1) as (λ (b : Bool). ReadNamed count
+    (if b then Ok (record { choice = c; told = t; value = v; sent = k.0 }, k.1) else refused expected.End k.1)) [ true ↦ e | false ↦ tt ]
 
-named_sent : (count : ℕ) (c : Choice) (t : Option OutcomePattern) (r : Read (Option Kind)) → names_below count c ≡ true → ReadNamed count (r >>= ended c t)
-named_sent count c t (Ok k) e = named_ended count c t k e
-named_sent count c t (Err s) e = tt
+named_sent : (count : ℕ) (c : Choice) (t : Option OutcomePattern) (v : Option ℕ) (r : Read (Option Kind)) → names_below count c ≡ true
+    → ReadNamed count (r >>= ended c t v)
+named_sent count c t v (Ok k) e = named_ended count c t v k e
+named_sent count c t v (Err s) e = tt
+
+named_value : (count : ℕ) (c : Choice) (t : Option OutcomePattern) (r : Read (Option ℕ)) → names_below count c ≡ true
+    → ReadNamed count (r >>= λ v. sent_of v.1 >>= ended c t v.0)
+named_value count c t (Ok v) e = named_sent count c t v.0 (sent_of v.1) e
+named_value count c t (Err s) e = tt
 
 named_told : (count : ℕ) (c : Choice) (r : Read (Option OutcomePattern)) → names_below count c ≡ true
-    → ReadNamed count (r >>= λ t. sent_of t.1 >>= ended c t.0)
-named_told count c (Ok t) e = named_sent count c t.0 (sent_of t.1) e
+    → ReadNamed count (r >>= λ t. value_of t.0 t.1 >>= λ v. sent_of v.1 >>= ended c t.0 v.0)
+named_told count c (Ok t) e = named_value count c t.0 (value_of t.0 t.1) e
 named_told count c (Err s) e = tt
 
 named_whole : (txns : Txns) (r : Read Choice) → Named txns.count r
-    → ReadNamed txns.count (r >>= λ c. told_of txns c.0 c.1 >>= λ t. sent_of t.1 >>= ended c.0 t.0)
+    → ReadNamed txns.count (r >>= λ c. told_of txns c.0 c.1 >>= λ t. value_of t.0 t.1 >>= λ v. sent_of v.1 >>= ended c.0 t.0 v.0)
 named_whole txns (Ok c) e = named_told txns.count c.0 (told_of txns c.0 c.1) e
 named_whole txns (Err s) e = tt
 

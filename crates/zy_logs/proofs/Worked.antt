@@ -1,13 +1,15 @@
 -- Worked lines: what some words spell, and what agrees with it, computed.
-use Rattle.std.proofs.Common.{◌≡◌, true, ℕ, ◌++◌, List, [], ◌∷◌, None, Some, Ok, Err, codes, refl}
+use Rattle.std.proofs.Common.{◌≡◌, true, ℕ, ◌++◌, List, [], ◌∷◌, Option, None, Some, Ok, Err, codes, refl, arith}
 use Rattle.std.specs.Fmt.{digits}
 use Rattle.zy_isa.specs.declared.node.Node.TheVariants.{A, B}
 use Rattle.zy_isa.specs.declared.node.Actor.TheVariants as actor
 use Rattle.zy_isa.specs.declared.choice.Choice.TheVariants.{Take, Push, Run, Begin, Kill}
 use Rattle.zy_model.specs.declared.kind.Kind.TheVariants as message
+use Rattle.zy_table.specs.declared.observation.Observation.{Observation}
 use Rattle.zy_table.specs.declared.outcome.Outcome.TheVariants as outcome
 use Rattle.zy_text.specs.Words.{words_of}
 use Rattle.zy_logs.specs.declared.expected.ExpectedInLog.TheVariants as expected
+use Rattle.zy_logs.specs.declared.log_line.LogLine.{LogLine}
 use Rattle.zy_logs.specs.declared.log_line.Logged.TheVariants.{Step, Gap}
 use Rattle.zy_patterns.specs.declared.patterns.ReasonPattern.TheVariants as reason
 use Rattle.zy_patterns.specs.declared.patterns.OutcomePattern.TheVariants as pattern
@@ -15,6 +17,7 @@ use Rattle.zy_logs.specs.declared.txns.Txns.{Txns}
 use Rattle.zy_text.specs.Names.{place_among}
 use Rattle.zy_patterns.specs.Vocabulary as word
 use Rattle.zy_patterns.specs.Patterns.{matches}
+use Rattle.zy_logs.specs.Agrees.{Agrees}
 use Rattle.zy_logs.specs.InFull.{step_words}
 use Rattle.zy_logs.specs.Lines as line
 use Rattle.zy_logs.specs.Lines.{line_of}
@@ -28,23 +31,23 @@ open_all = 0
 module _ (txns : Txns) where
   -- a choice, its outcome and a message
   takes : line_of txns (words_of (codes "A take -> got ready ! dual"))
-      ≡ Ok (Step (record { choice = Take A; told = Some pattern.GotReady; sent = Some message.Dual }))
+      ≡ Ok (Step (record { choice = Take A; told = Some pattern.GotReady; value = None; sent = Some message.Dual }))
   unfolding open_all
   takes = refl
 
   -- a choice alone
-  alone : line_of txns (words_of (codes "  B take ; nothing was logged")) ≡ Ok (Step (record { choice = Take B; told = None; sent = None }))
+  alone : line_of txns (words_of (codes "  B take ; nothing was logged")) ≡ Ok (Step (record { choice = Take B; told = None; value = None; sent = None }))
   unfolding open_all
   alone = refl
 
   -- what came was not logged, and a message was
-  unknown : line_of txns (words_of (codes "B push -> ? ! page")) ≡ Ok (Step (record { choice = Push B; told = None; sent = Some message.Page }))
+  unknown : line_of txns (words_of (codes "B push -> ? ! page")) ≡ Ok (Step (record { choice = Push B; told = None; value = None; sent = Some message.Page }))
   unfolding open_all
   unknown = refl
 
   -- the number is left out before a message
   without_page : line_of txns (words_of (codes "B push -> pushed ! page"))
-      ≡ Ok (Step (record { choice = Push B; told = Some (pattern.Pushed None); sent = Some message.Page }))
+      ≡ Ok (Step (record { choice = Push B; told = Some (pattern.Pushed None); value = None; sent = Some message.Page }))
   unfolding open_all
   without_page = refl
 
@@ -70,19 +73,57 @@ module _ (txns : Txns) where
 
   -- a transaction by its number
   begins : txns.count ≡ 1 → line_of txns (words_of (codes "C begin 0 -> began A"))
-      ≡ Ok (Step (record { choice = Begin 0; told = Some (pattern.Began (Some A)); sent = None }))
+      ≡ Ok (Step (record { choice = Begin 0; told = Some (pattern.Began (Some A)); value = None; sent = None }))
   unfolding open_all
   begins one = rw one refl
 
   -- and by its name; the number of the commit is left out
   commits : txns.count ≡ 1 → place_among txns.names.now (codes "transfer") ≡ Some 0 → line_of txns (words_of (codes "A run transfer -> committed"))
-      ≡ Ok (Step (record { choice = Run A 0; told = Some (pattern.Committed None); sent = None }))
+      ≡ Ok (Step (record { choice = Run A 0; told = Some (pattern.Committed None); value = None; sent = None }))
   unfolding open_all
   commits one known = rw (known, one) refl
 
+  -- `did` and its value, up to the greatest
+  value : txns.count ≡ 1 → line_of txns (words_of (codes "A run 0 -> did 4294967295"))
+      ≡ Ok (Step (record { choice = Run A 0; told = Some pattern.Did; value = Some 4294967295; sent = None }))
+  unfolding open_all
+  value one = rw one refl
+
+  -- the value is left out before a message
+  without_value : txns.count ≡ 1 → line_of txns (words_of (codes "A run 0 -> did ! pull"))
+      ≡ Ok (Step (record { choice = Run A 0; told = Some pattern.Did; value = None; sent = Some message.Pull }))
+  unfolding open_all
+  without_value one = rw one refl
+
+  -- a greater one is none
+  large_value : txns.count ≡ 1 → line_of txns (words_of (codes "A run 0 -> did 4294967296"))
+      ≡ Err (record { word = 5; expected = expected.AtMost 4294967295 })
+  unfolding open_all
+  large_value one = rw one refl
+
+  -- nor is a word
+  no_value : txns.count ≡ 1 → line_of txns (words_of (codes "A run 0 -> did it")) ≡ Err (record { word = 5; expected = expected.Number })
+  unfolding open_all
+  no_value one = rw one refl
+
+  -- there is one alone
+  two_values : txns.count ≡ 1 → line_of txns (words_of (codes "A run 0 -> did 7 8")) ≡ Err (record { word = 6; expected = expected.AfterOutcome })
+  unfolding open_all
+  two_values one = rw one refl
+
+  -- and it comes behind `did` alone
+  waits_no_value : txns.count ≡ 1 → line_of txns (words_of (codes "A run 0 -> waits 0 7"))
+      ≡ Err (record { word = 6; expected = expected.AfterOutcome })
+  unfolding open_all
+  waits_no_value one = rw one refl
+
+  unknown_no_value : txns.count ≡ 1 → line_of txns (words_of (codes "A run 0 -> ? 7")) ≡ Err (record { word = 5; expected = expected.AfterOutcome })
+  unfolding open_all
+  unknown_no_value one = rw one refl
+
   -- `killed` is the client's abort alone
   kills : txns.count ≡ 1 → line_of txns (words_of (codes "C kill 0 -> aborted killed"))
-      ≡ Ok (Step (record { choice = Kill 0; told = Some (pattern.Aborted (Some reason.Killed)); sent = None }))
+      ≡ Ok (Step (record { choice = Kill 0; told = Some (pattern.Aborted (Some reason.Killed)); value = None; sent = None }))
   unfolding open_all
   kills one = rw one refl
 
@@ -126,8 +167,8 @@ module _ (txns : Txns) where
   text = codes "A take" ++ 10 ∷ 10 ∷ codes "B push"
 
   -- its lines have the numbers of lines of the input, the first of which is 5
-  numbered : logs_of txns 4 2 5 text ≡ Ok (record { number = 5; logged = Step (record { choice = Take A; told = None; sent = None }) }
-      ∷ record { number = 7; logged = Step (record { choice = Push B; told = None; sent = None }) } ∷ [])
+  numbered : logs_of txns 4 2 5 text ≡ Ok (record { number = 5; logged = Step (record { choice = Take A; told = None; value = None; sent = None }) }
+      ∷ record { number = 7; logged = Step (record { choice = Push B; told = None; value = None; sent = None }) } ∷ [])
   unfolding open_all
   numbered = refl
 
@@ -141,7 +182,7 @@ module _ (txns : Txns) where
   with_gap = codes "A take" ++ 10 ∷ codes "A ..."
 
   -- where a gap counts for four steps, they count for five
-  gap_counts : logs_of txns 4 5 1 with_gap ≡ Ok (record { number = 1; logged = Step (record { choice = Take A; told = None; sent = None }) }
+  gap_counts : logs_of txns 4 5 1 with_gap ≡ Ok (record { number = 1; logged = Step (record { choice = Take A; told = None; value = None; sent = None }) }
       ∷ record { number = 2; logged = Gap actor.A } ∷ [])
   unfolding open_all
   gap_counts = refl
@@ -159,12 +200,43 @@ page_told = refl
 page_left_out : matches (pattern.Waits None) (outcome.Waits 7) ≡ true
 page_left_out = refl
 
+-- a run shows 7
+abbrev shows : Observation
+shows = record { entry = record { choice = Run A 0; outcome = outcome.Did; sent = None }; value = Some 7 }
+
+-- a line of it that tells a value, or none
+abbrev tells : Option ℕ → LogLine
+tells v = record { choice = Run A 0; told = Some pattern.Did; value = v; sent = None }
+
+-- the logged value is the one that came
+value_told : Agrees (tells (Some 7)) shows
+value_told = (refl, refl, tt)
+
+-- any value may come where none was logged
+value_left_out : Agrees (tells None) shows
+value_left_out = (refl, tt, tt)
+
+-- another value does not agree
+value_differs : Agrees (tells (Some 8)) shows → ⊥
+value_differs h = grind (arith, h.1)
+
+-- nor does any, where the step shows none
+value_of_none : Agrees (tells (Some 0)) (record shows { value = None }) → ⊥
+value_of_none h = let e = h.1 in cc
+
 -- all of a step, in words
-all_told : step_words (record { choice = Take A; outcome = outcome.GotPull 1; sent = Some message.Page }) ≡ words_of (codes "A take -> got pull 1 ! page")
+all_told : step_words (record { entry = record { choice = Take A; outcome = outcome.GotPull 1; sent = Some message.Page }; value = None })
+    ≡ words_of (codes "A take -> got pull 1 ! page")
 unfolding digits
 all_told = refl
 
 -- one that sent no message
-all_told_alone : step_words (record { choice = Begin 0; outcome = outcome.Began B; sent = None }) ≡ words_of (codes "C begin 0 -> began B")
+all_told_alone : step_words (record { entry = record { choice = Begin 0; outcome = outcome.Began B; sent = None }; value = None })
+    ≡ words_of (codes "C begin 0 -> began B")
 unfolding digits
 all_told_alone = refl
+
+-- one that shows a value
+all_told_value : step_words shows ≡ words_of (codes "A run 0 -> did 7")
+unfolding digits
+all_told_value = refl

@@ -1,9 +1,10 @@
--- Whether what a line of a log tells is what came.
+-- Whether what a line of a log tells is what a step shows.
 use Rattle.std.specs.Prelude.{◌≡◌, true, IfSome, Some}
 use Rattle.zy_patterns.specs.Patterns.{matches}
 use Rattle.zy_logs.specs.declared.log_line.LogLine.{LogLine}
-use Rattle.zy_table.specs.declared.entry.Entry.{Entry}
+use Rattle.zy_table.specs.declared.observation.Observation.{Observation}
 
--- a line agrees with an entry: the outcome that it tells, if it tells one, came, and so did the message that it tells
-abbrev pub Agrees : LogLine → Entry → Type 0
-Agrees line e = IfSome line.told (λ t. matches t e.outcome ≡ true) × IfSome line.sent (λ kind. e.sent ≡ Some kind)
+-- a line agrees with an observation: the outcome that it tells, if it tells one, came, and so did the value and the message that it tells
+abbrev pub Agrees : LogLine → Observation → Type 0
+Agrees line o = IfSome line.told (λ t. matches t o.entry.outcome ≡ true) × IfSome line.value (λ v. o.value ≡ Some v)
+    × IfSome line.sent (λ kind. o.entry.sent ≡ Some kind)

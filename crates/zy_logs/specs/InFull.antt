@@ -1,22 +1,26 @@
--- The line of a log that tells all of a step, and the outcomes that such a line can tell.
-use Rattle.std.specs.Prelude.{ℕ, ◌≤◌, ◌<◌, ◌++◌, List, [], ◌∷◌, codes, Option, Some, None}
+-- The line of a log that tells all that a step shows, and what such a line can tell.
+use Rattle.std.specs.Prelude.{◌≡◌, ℕ, ◌≤◌, ◌<◌, ◌++◌, List, [], ◌∷◌, codes, Option, Some, None, IfSome}
 use Rattle.std.specs.Fmt.{decimal}
-use Rattle.zy_isa.specs.Limits.{max_key, max_txns}
+use Rattle.zy_isa.specs.Limits.{max_key, max_txns, max_value}
+use Rattle.zy_isa.specs.declared.instr.Reg.{Reg}
 use Rattle.zy_model.specs.declared.kind.Kind.{Kind}
 use Rattle.zy_model.specs.declared.kind.Kind.TheVariants as kind
-use Rattle.zy_table.specs.declared.entry.Entry.{Entry}
+use Rattle.zy_table.specs.declared.observation.Observation.{Observation}
 use Rattle.zy_table.specs.declared.outcome.Why.{Why}
 use Rattle.zy_table.specs.declared.outcome.Why.TheVariants as why
 use Rattle.zy_table.specs.declared.outcome.Outcome.{Outcome}
 use Rattle.zy_table.specs.declared.outcome.Outcome.TheVariants as outcome
+use Rattle.zy_table.specs.Change.{reg}
+use Rattle.zy_table.specs.Observations.{txn_of}
+use Rattle.zy_table.specs.State.{State}
 use Rattle.zy_text.specs.Canon.{node_text, choice_words}
 use Rattle.zy_patterns.specs.Patterns.{exactly}
 use Rattle.zy_logs.specs.declared.log_line.LogLine.{LogLine}
 use Rattle.zy_logs.specs.Words.{Word}
 
--- the choice, all of the outcome, and the message that was sent, if one was
-abbrev pub in_full : Entry → LogLine
-in_full e = record { choice = e.choice; told = Some (exactly e.outcome); sent = e.sent }
+-- the choice, all of the outcome, the value, if there is one, and the message that was sent, if one was
+abbrev pub in_full : Observation → LogLine
+in_full o = record { choice = o.entry.choice; told = Some (exactly o.entry.outcome); value = o.value; sent = o.entry.sent }
 
 -- a line may give this number for a page or a key
 abbrev pub IsPage : ℕ → Type 0
@@ -43,6 +47,14 @@ IsTold count (outcome.GotPage p) = IsPage p
 IsTold count (outcome.Active t) = t < count
 IsTold count (outcome.Pushed p) = IsPage p
 IsTold count o = Unit {0}
+
+-- a line may have the value: it stands beside `did`, and is not too large
+abbrev pub IsShown : Observation → Type 0
+IsShown o = IfSome o.value (λ v. (v ≤ max_value) × (o.entry.outcome ≡ outcome.Did))
+
+-- each register of each transaction holds a value that a line may have
+abbrev pub HoldValues : State → Type 0
+HoldValues s = (t : ℕ) → (r : Reg) → reg (txn_of s t).regs r ≤ max_value
 
 -- ---- the words of such a line, which names a transaction by its number
 
@@ -98,11 +110,16 @@ kind_word kind.Page = codes "page"
 kind_word kind.Finish = codes "finish"
 kind_word kind.Done = codes "done"
 
+-- [ V ]
+abbrev pub value_words : Option ℕ → List Word
+value_words None = []
+value_words (Some v) = decimal v ∷ []
+
 -- [ ! KIND ]
 abbrev pub sent_words : Option Kind → List Word
 sent_words None = []
 sent_words (Some k) = codes "!" ∷ kind_word k ∷ []
 
--- CHOICE -> OUTCOME [ ! KIND ]
-abbrev pub step_words : Entry → List Word
-step_words e = choice_words e.choice ++ (codes "->" ∷ (outcome_words e.outcome ++ sent_words e.sent))
+-- CHOICE -> OUTCOME [ V ] [ ! KIND ]
+abbrev pub step_words : Observation → List Word
+step_words o = choice_words o.entry.choice ++ (codes "->" ∷ (outcome_words o.entry.outcome ++ (value_words o.value ++ sent_words o.entry.sent)))

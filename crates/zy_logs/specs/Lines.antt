@@ -1,5 +1,5 @@
--- The line of a log that words spell: CHOICE, then [ -> OUTCOME ], then [ ! KIND ]; or ACTOR `...`.
-use Rattle.std.specs.Prelude.{ℕ, ◌-◌, List, codes, length, Option, Some, None, Result, Ok, Err, if◌then◌else◌}
+-- The line of a log that words spell: CHOICE, then [ -> OUTCOME ], then [ V ] where that is `did`, then [ ! KIND ]; or ACTOR `...`.
+use Rattle.std.specs.Prelude.{ℕ, ◌-◌, Bool, true, false, List, codes, length, Option, Some, None, Result, Ok, Err, if◌then◌else◌}
 use Rattle.zy_isa.specs.declared.node.Node.{Node}
 use Rattle.zy_isa.specs.declared.node.Node.TheVariants.{A, B}
 use Rattle.zy_isa.specs.declared.node.Actor.{Actor}
@@ -19,7 +19,7 @@ use Rattle.zy_patterns.specs.declared.patterns.OutcomePattern.{OutcomePattern}
 use Rattle.zy_patterns.specs.declared.patterns.OutcomePattern.TheVariants as pattern
 use Rattle.zy_logs.specs.declared.txns.Txns.{Txns}
 use Rattle.zy_logs.specs.Words.{Word, Read, first, after, are_none, begin_with, end_outcome, refused, gives, made}
-use Rattle.zy_logs.specs.Parts.{or_none, page, place, txn, node_at, reason}
+use Rattle.zy_logs.specs.Parts.{or_none, page, place, value, txn, node_at, reason}
 use Rattle.zy_logs.specs.Possible.{can_give}
 use Rattle.zy_patterns.specs.Vocabulary as word
 use Rattle.zy_patterns.specs.Paged.{with_page}
@@ -102,6 +102,15 @@ told_of txns c ws =
     if end_outcome ws then Ok (None, ws) else
     refused expected.AfterChoice ws
 
+-- `did` is told
+abbrev pub is_did : Option OutcomePattern → Bool
+is_did (Some pattern.Did) = true
+is_did t = false
+
+-- [ V ], after `did` alone
+abbrev pub value_of : Option OutcomePattern → List Word → Read (Option ℕ)
+value_of t ws = if is_did t then or_none value ws else Ok (None, ws)
+
 -- KIND, after `!`
 abbrev pub message : List Word → Read (Option Kind)
 message ws = made Some (gives (word.kind (first ws)) expected.Message ws)
@@ -113,13 +122,14 @@ sent_of ws =
     if are_none ws then Ok (None, ws) else
     refused expected.AfterOutcome ws
 
--- the three parts, and nothing after them
+-- the parts, and nothing after them
 abbrev pub whole : Txns → List Word → Read LogLine
 whole txns ws = do
   c ← choice_of txns ws
   t ← told_of txns c.0 c.1
-  k ← sent_of t.1
-  if are_none k.1 then Ok (record { choice = c.0; told = t.0; sent = k.0 }, k.1) else refused expected.End k.1
+  v ← value_of t.0 t.1
+  k ← sent_of v.1
+  if are_none k.1 then Ok (record { choice = c.0; told = t.0; value = v.0; sent = k.0 }, k.1) else refused expected.End k.1
 
 -- C, A or B
 abbrev pub whose : List Word → Read Actor

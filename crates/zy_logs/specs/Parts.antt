@@ -1,6 +1,6 @@
 -- Numbers, nodes, reasons and transactions, and which of them may be left out.
 use Rattle.std.specs.Prelude.{ℕ, List, codes, nat_le, nat_lt, Option, Some, None, Ok, if◌then◌else◌}
-use Rattle.zy_isa.specs.Limits.{max_key, max_txns}
+use Rattle.zy_isa.specs.Limits.{max_key, max_txns, max_value}
 use Rattle.zy_isa.specs.declared.node.Node.{Node}
 use Rattle.zy_isa.specs.Results.{◌>>=◌}
 use Rattle.zy_text.specs.Words.{number_of, is_numeral}
@@ -34,6 +34,10 @@ page ws = number max_key ws
 -- I
 abbrev pub place : List Word → Read ℕ
 place ws = number max_txns ws
+
+-- V
+abbrev pub value : List Word → Read ℕ
+value ws = number max_value ws
 
 -- the number of one of `count` transactions
 abbrev pub numbered : ℕ → List Word → Read ℕ

@@ -4,14 +4,15 @@ ghost use Rattle.zy_isa.specs.declared.choice.Choice.{Choice as AChoice};
 ghost use Rattle.zy_isa.specs.Choices.{names_below};
 ghost use Rattle.zy_isa.specs.Limits.{max_txns};
 ghost use Rattle.zy_isa.specs.Scenario.{AreNamed, Scenario as AScenario};
-ghost use Rattle.zy_table.specs.declared.entry.Entry.{Entry as AnEntry};
+ghost use Rattle.zy_table.specs.declared.observation.Observation.{Observation as AnObservation};
 ghost use Rattle.zy_table.specs.declared.outcome.Outcome.{Outcome as AnOutcome};
+ghost use Rattle.zy_table.specs.Observations.{observation_at};
 ghost use Rattle.zy_table.specs.Play.{step};
 ghost use Rattle.zy_table.specs.State.{State};
 ghost use Rattle.zy_logs.specs.declared.logs.NumberedLine.{NumberedLine as ALine};
 ghost use Rattle.zy_logs.specs.declared.log_line.Logged.TheVariants.{Step};
 ghost use Rattle.zy_logs.specs.declared.txns.Txns.{Txns as SomeTxns};
-ghost use Rattle.zy_logs.specs.InFull.{IsTold, in_full, outcome_words, step_words};
+ghost use Rattle.zy_logs.specs.InFull.{HoldValues, IsShown, IsTold, in_full, outcome_words, step_words};
 ghost use Rattle.zy_logs.specs.Lines.{line_of, outcome_of};
 ghost use Rattle.zy_logs.specs.Logs.{choices_of, logs_of, steps_in};
 ghost use Rattle.zy_logs.specs.Possible.{can_give};
@@ -34,12 +35,18 @@ pub fn steps_are_possible()
         → can_give c told ≡ true }
 {}
 
+/// A step shows a value beside `did` alone, and it is one that a line may have, where the registers that the step leaves hold such
+/// values.
+pub fn values_are_shown()
+    ensures { (sc : AScenario) → (c : AChoice) → (s : State) → HoldValues (step sc c s).after → IsShown (observation_at sc s c) }
+{}
+
 /// The reader takes the words that tell all of an outcome as the pattern that matches only this outcome, whatever words follow. It
-/// reads the words of a whole step likewise: its choice, its outcome, and the sent message, if any.
+/// reads the words of all that a step shows likewise: its choice, its outcome, and the value and the sent message, if any.
 pub fn told_in_full()
     ensures outcome { (txns : SomeTxns) → txns.count ≤ max_txns → (told : AnOutcome) → IsTold txns.count told → (rest : List AWord)
         → outcome_of txns (outcome_words told ++ rest) ≡ Ok (exactly told, rest) }
-    ensures line { (txns : SomeTxns) → txns.count ≤ max_txns → (e : AnEntry) → names_below txns.count e.choice ≡ true
-        → IsTold txns.count e.outcome → can_give e.choice (exactly e.outcome) ≡ true
-        → line_of txns (step_words e) ≡ Ok (Step (in_full e)) }
+    ensures line { (txns : SomeTxns) → txns.count ≤ max_txns → (o : AnObservation) → names_below txns.count o.entry.choice ≡ true
+        → IsTold txns.count o.entry.outcome → can_give o.entry.choice (exactly o.entry.outcome) ≡ true → IsShown o
+        → line_of txns (step_words o) ≡ Ok (Step (in_full o)) }
 {}

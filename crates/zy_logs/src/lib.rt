@@ -1,4 +1,4 @@
-//! Lines of logs: what they tell of steps, whether an entry agrees with it, and how they are read.
+//! Lines of logs: what they tell of steps, whether they agree with what a step shows, and how they are read.
 #![tactic(auto)]
 
 pub mod expected;

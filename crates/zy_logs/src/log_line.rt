@@ -9,16 +9,18 @@ use zy_isa::{Actor, Choice};
 use zy_model::Kind;
 use zy_patterns::OutcomePattern;
 use zy_patterns::patterns::matches;
-use zy_table::{Entry, Outcome};
+use zy_table::{Observation, Outcome};
 
-/// A line of a log: a choice that was made, what was logged of its outcome, if anything was, and the kind of message that was
-/// sent, if it was logged. A line without a kind says nothing of messages: there is none that says that none was sent.
+/// A line of a log: a choice that was made, and what was logged of its outcome, of the value that its step set or wrote, and of the
+/// message that was sent, if anything was. What it does not tell may be any: no line says that no message was sent.
 #[derive(Clone, Copy)]
 pub struct LogLine {
     /// The choice.
     pub choice: Choice,
     /// What was logged of the outcome of its step, if anything was.
     pub told: Option<OutcomePattern>,
+    /// The value that its step set or wrote, if it was logged.
+    pub value: Option<u32>,
     /// The kind of message that its step sent, if it was logged.
     pub sent: Option<Kind>,
 }
@@ -38,6 +40,16 @@ fn is_outcome(told: Option<OutcomePattern>, came: Outcome) -> bool
 {
     match told {
         Some(told) => matches(told, came),
+        None => true,
+    }
+}
+
+/// Whether the logged value came, if one was logged.
+fn is_value(logged: Option<u32>, came: Option<u32>) -> bool
+    ensures { Decides result (IfSome logged (λ v. came ≡ Some v)) }
+{
+    match logged {
+        Some(value) => came == Some(value),
         None => true,
     }
 }
@@ -65,10 +77,13 @@ impl Logged {
 }
 
 impl LogLine {
-    /// Whether the line agrees with an entry of a history: what it tells of the outcome and of the message is what came.
-    pub fn agrees(&self, entry: &Entry) -> bool
-        ensures { Decides result (Agrees self.now entry.now) }
+    /// Whether the line agrees with what a step shows: what it tells of the outcome, of the value and of the message is what
+    /// came.
+    pub fn agrees(&self, observation: &Observation) -> bool
+        ensures { Decides result (Agrees self.now observation.now) }
     {
-        is_outcome(self.told, entry.outcome) && is_sent(self.sent, entry.sent)
+        is_outcome(self.told, observation.entry.outcome)
+            && is_value(self.value, observation.value)
+            && is_sent(self.sent, observation.entry.sent)
     }
 }

@@ -17,6 +17,7 @@ use crate::possible::can_give;
 use crate::reading::choices::{choice, whose};
 use crate::reading::cursor::{LogCursor, Parsed};
 use crate::reading::outcomes::outcome;
+use crate::reading::parts::value_or_none;
 use crate::txns::Txns;
 use zy_isa::Choice;
 use zy_model::Kind;
@@ -66,6 +67,24 @@ fn told<'a>(txns: Txns<'a>, choice: Choice, at: LogCursor<'a>) -> Parsed<'a, Opt
     }
 }
 
+/// Whether `did` is told.
+fn is_did(told: Option<OutcomePattern>) -> bool
+    ensures { result ≡ spec.is_did told }
+{
+    matches!(told, Some(OutcomePattern::Did))
+}
+
+/// The value, if it was logged, which it may be behind `did` alone.
+fn value<'a>(told: Option<OutcomePattern>, at: LogCursor<'a>) -> Parsed<'a, Option<u32>>
+    ensures { read result ≡ spec.value_of told (left at.entry) }
+{
+    if is_did(told) {
+        value_or_none(at)
+    } else {
+        Ok((None, at))
+    }
+}
+
 /// The kind of the message that was sent.
 fn message<'a>(at: LogCursor<'a>) -> Parsed<'a, Option<Kind>>
     ensures { read result ≡ spec.message (left at.entry) }
@@ -94,11 +113,18 @@ fn whole<'a>(txns: Txns<'a>, at: LogCursor<'a>) -> Parsed<'a, LogLine>
 {
     let (choice, at) = choice(txns, at)?;
     let (told, at) = told(txns, choice, at)?;
+    let (value, at) = value(told, at)?;
     let (sent, at) = sent(at)?;
     if !at.is_end() {
         return Err(at.refuses(ExpectedInLog::End));
     }
-    Ok((LogLine { choice, told, sent }, at))
+    let line = LogLine {
+        choice,
+        told,
+        value,
+        sent,
+    };
+    Ok((line, at))
 }
 
 /// What a line says whose second word is `...`: whose log has a gap.

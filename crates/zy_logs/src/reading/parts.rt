@@ -15,10 +15,13 @@ use zy_text::names::{is_name, is_numeral};
 use zy_text::numbers::number_of;
 
 /// The greatest key, and the greatest number of a page that a line can name.
-const MAX_PAGE: u64 = 65535;
+const MAX_PAGE: u64 = u16::MAX as u64;
 
 /// The greatest place in commit order.
 const MAX_PLACE: u64 = MAX_TXNS as u64;
+
+/// The greatest value.
+const MAX_VALUE: u64 = u32::MAX as u64;
 
 /// A number that is not above `most`.
 fn number<'a>(most: u64, at: LogCursor<'a>) -> Parsed<'a, u64>
@@ -47,6 +50,14 @@ fn place<'a>(at: LogCursor<'a>) -> Parsed<'a, u8>
 {
     let (number, at) = number(MAX_PLACE, at)?;
     Ok((number as u8, at))
+}
+
+/// A value.
+fn value<'a>(at: LogCursor<'a>) -> Parsed<'a, u32>
+    ensures { read result ≡ spec.value (left at.entry) }
+{
+    let (number, at) = number(MAX_VALUE, at)?;
+    Ok((number as u32, at))
 }
 
 /// A transaction by its number, where there are `count`.
@@ -96,6 +107,17 @@ pub fn place_or_none<'a>(at: LogCursor<'a>) -> Parsed<'a, Option<u8>>
     }
     let (place, at) = place(at)?;
     Ok((Some(place), at))
+}
+
+/// A value, if it is there.
+pub fn value_or_none<'a>(at: LogCursor<'a>) -> Parsed<'a, Option<u32>>
+    ensures { read result ≡ or_none spec.value (left at.entry) }
+{
+    if at.ends_outcome() {
+        return Ok((None, at));
+    }
+    let (value, at) = value(at)?;
+    Ok((Some(value), at))
 }
 
 /// A transaction, if it is there.

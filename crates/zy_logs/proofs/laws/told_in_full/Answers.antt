@@ -6,4 +6,4 @@ pub returns-clause-outcome : goal.returns-clause-outcome
 returns-clause-outcome c txns most told h rest = outcome_given txns told rest most h
 
 pub returns-clause-line : goal.returns-clause-line
-returns-clause-line c txns most e = step_given txns e most
+returns-clause-line c txns most o = step_given txns o most
