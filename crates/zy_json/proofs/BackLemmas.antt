@@ -3,7 +3,7 @@ use Rattle.std.proofs.Common.{◌≡◌, ℕ, List, Result, Ok, Err, sym, ap, �
 use Rattle.std.specs.Str.{IsUtf8}
 use Rattle.json.specs.Json.{Json, null, boolean, number, string, array, object}
 use Rattle.zy_json.specs.declared.faults.JsonFault.{JsonFault}
-use Rattle.zy_json.specs.declared.faults.JsonFault.TheVariants.{NotJson, NotObject, Missing, Twice, NotString, NoActor, Sign, Memory}
+use Rattle.zy_json.specs.declared.faults.JsonFault.TheVariants.{NotJson, NotObject, Missing, Twice, NotString, NotNumber, NotDid, NoActor, Sign, Memory}
 use Rattle.zy_json.specs.declared.step.JsonStep.{JsonStep}
 use Rattle.zy_json.specs.Meaning.{Reads, Tells, step_told}
 use Rattle.zy_json.specs.Steps.{Step, step_of}
@@ -15,10 +15,10 @@ use Rattle.zy_json.proofs.WrittenLemmas.{members_of, document-json_text}
 
 -- the line is the object of the step, whose members tell the step
 pub told_by_line : (s : Step) → IsUtf8 (json_text s) → IsLine s → Tells (json_text s) (Ok s)
-told_by_line s utf8 line = (object (members_of s), (utf8, document-json_text s), step_in-members_of s line)
+told_by_line s utf8 line = (object (members_of s), (utf8, document-json_text s line), step_in-members_of s line)
 
 pub Tells-json_text : (s : Step) → IsInUtf8 s → IsLine s → Tells (json_text s) (Ok s)
-Tells-json_text s utf8 line = told_by_line s (IsUtf8-json_text s utf8) line
+Tells-json_text s utf8 line = told_by_line s (IsUtf8-json_text s utf8 line) line
 
 -- a text tells one thing
 one_told : (text : List ℕ) (told other : Result Step JsonFault) → Tells text told → Tells text other → told ≡ other
@@ -34,6 +34,8 @@ answered text s (Err NotObject) t reads = let same : Err NotObject ≡ Ok s = on
 answered text s (Err (Missing f)) t reads = let same : Err (Missing f) ≡ Ok s = one_told text (Err (Missing f)) (Ok s) reads t in cc
 answered text s (Err (Twice f)) t reads = let same : Err (Twice f) ≡ Ok s = one_told text (Err (Twice f)) (Ok s) reads t in cc
 answered text s (Err (NotString f)) t reads = let same : Err (NotString f) ≡ Ok s = one_told text (Err (NotString f)) (Ok s) reads t in cc
+answered text s (Err NotNumber) t reads = let same : Err NotNumber ≡ Ok s = one_told text (Err NotNumber) (Ok s) reads t in cc
+answered text s (Err NotDid) t reads = let same : Err NotDid ≡ Ok s = one_told text (Err NotDid) (Ok s) reads t in cc
 answered text s (Err NoActor) t reads = let same : Err NoActor ≡ Ok s = one_told text (Err NoActor) (Ok s) reads t in cc
 answered text s (Err (Sign f)) t reads = let same : Err (Sign f) ≡ Ok s = one_told text (Err (Sign f)) (Ok s) reads t in cc
 answered text s (Err Memory) t reads = tt

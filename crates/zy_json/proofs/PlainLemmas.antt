@@ -1,5 +1,5 @@
 -- Where no sign is escaped, the texts of a step stand in its line as they are.
-use Rattle.std.proofs.Common.{◌≡◌, ℕ, nat_lt, false, ◌||◌, ◌==◌, List, [], ◌∷◌, ◌++◌, codes, Option, Some, None, refl, sym, ap, ap₂, ◌∙◌, arith, append_assoc}
+use Rattle.std.proofs.Common.{◌≡◌, ℕ, nat_lt, false, ◌||◌, ◌==◌, List, [], ◌∷◌, ◌++◌, codes, Option, Some, None, refl, sym, ap, ap₂, ◌∙◌, arith, append_assoc, append-nil}
 use Rattle.std.proofs.lemmas.Bool.Decides.{nat_tests}
 use Rattle.std.specs.Prelude.{IfSome}
 use Rattle.std.specs.List.{list_any}
@@ -7,8 +7,8 @@ use Rattle.json.specs.Print.{escape, escape_byte, quoted}
 use Rattle.json.proofs.Printed.Strings.{escape_byte_plain}
 use Rattle.zy_isa.specs.declared.node.Actor.{Actor}
 use Rattle.zy_isa.specs.declared.node.Actor.TheVariants.{C, A, B}
-use Rattle.zy_json.specs.Plain.{is_escaped, IsPlainText, IsPlain, plain_text}
-use Rattle.zy_json.specs.Steps.{Step, actor_text, behind}
+use Rattle.zy_json.specs.Plain.{is_escaped, IsPlainText, IsPlain, plain_field, plain_text}
+use Rattle.zy_json.specs.Steps.{Step, actor_text, behind, digits_of}
 use Rattle.zy_json.specs.Written.{json_text, with_name}
 use Rattle.zy_json.proofs.WordLemmas.{neither}
 
@@ -31,59 +31,49 @@ quoted_plain : (text behind : List ℕ) → IsPlainText text → quoted text ++ 
 quoted_plain text behind e =
     ap (λ (t : List ℕ). 34 ∷ ((t ++ 34 ∷ []) ++ behind)) (escape_plain text e) ∙ ap (λ (t : List ℕ). 34 ∷ t) (append_assoc text (34 ∷ []) behind)
 
--- a field that may be missing, the end of the string before it, and what comes behind it
-field_plain : (name : List ℕ) (text : Option (List ℕ)) (rest : List ℕ) → IfSome text IsPlainText
-    → 34 ∷ (with_name name text ++ rest) ≡ behind (34 ∷ (name ++ 34 ∷ [])) text ++ 34 ∷ rest
-field_plain name None rest e = refl
-field_plain name (Some text) rest e =
-    let parted = append_assoc name (quoted text) rest in
-    let bare = quoted_plain text rest e in
-    ap (λ (l : List ℕ). 34 ∷ l) (parted ∙ ap (λ (l : List ℕ). name ++ l) bare ∙ sym (append_assoc name (34 ∷ []) (text ++ 34 ∷ rest))
-    ∙ sym (append_assoc (name ++ 34 ∷ []) text (34 ∷ rest)))
+-- a field that may be missing
+field_plain : (name : List ℕ) (text : Option (List ℕ)) → IfSome text IsPlainText → with_name name text ≡ plain_field name text
+field_plain name None e = refl
+field_plain name (Some text) e =
+    ap (λ (l : List ℕ). name ++ l) (sym (append-nil (quoted text)) ∙ quoted_plain text [] e)
 
 letter_plain : (a : Actor) → IsPlainText (actor_text a)
 letter_plain C = refl
 letter_plain A = refl
 letter_plain B = refl
 
--- what stands behind the action in a step's line, and in the line of its texts as they are
-abbrev escaped_end : Option (List ℕ) → Option (List ℕ) → List ℕ
-escaped_end came sent = with_name (codes ",\"came\":") came ++ (with_name (codes ",\"sent\":") sent ++ codes "}")
+-- what stands behind the action's string in a step's line, without the brace
+abbrev plain_end : Step → List ℕ
+plain_end s = plain_field (codes ",\"came\":") s.came
+    ++ (behind (codes ",\"value\":") (digits_of s.value) ++ plain_field (codes ",\"sent\":") s.sent)
 
-abbrev plain_end : Option (List ℕ) → Option (List ℕ) → List ℕ
-plain_end came sent = behind (codes "\",\"came\":\"") came ++ (behind (codes "\",\"sent\":\"") sent ++ codes "\"}")
-
--- they are the same, but for the end of the action's string
-ends_plain : (came sent : Option (List ℕ)) → IfSome came IsPlainText → IfSome sent IsPlainText
-    → 34 ∷ escaped_end came sent ≡ plain_end came sent
-ends_plain came sent p q =
-    field_plain (codes ",\"came\":") came (with_name (codes ",\"sent\":") sent ++ codes "}") p
-    ∙ ap (λ (l : List ℕ). behind (codes "\",\"came\":\"") came ++ l) (field_plain (codes ",\"sent\":") sent (codes "}") q)
-
--- the end of the fields, and the brace behind it
-end_closed : (came sent : Option (List ℕ))
-    → (behind (codes "\",\"came\":\"") came ++ (behind (codes "\",\"sent\":\"") sent ++ codes "\"")) ++ codes "}" ≡ plain_end came sent
-end_closed came sent =
-    append_assoc (behind (codes "\",\"came\":\"") came) (behind (codes "\",\"sent\":\"") sent ++ codes "\"") (codes "}")
-    ∙ ap (λ (l : List ℕ). behind (codes "\",\"came\":\"") came ++ l) (append_assoc (behind (codes "\",\"sent\":\"") sent) (codes "\"") (codes "}"))
+-- it is the same in the line whose texts are escaped
+ends_plain : (s : Step) → IsPlain s
+    → with_name (codes ",\"came\":") s.came ++ (behind (codes ",\"value\":") (digits_of s.value)
+    ++ (with_name (codes ",\"sent\":") s.sent ++ codes "}")) ≡ plain_end s ++ codes "}"
+ends_plain s plain =
+    let came = plain_field (codes ",\"came\":") s.came in
+    let value = behind (codes ",\"value\":") (digits_of s.value) in
+    let sent = plain_field (codes ",\"sent\":") s.sent in
+    ap₂ (λ (a b : List ℕ). a ++ (value ++ (b ++ codes "}"))) (field_plain (codes ",\"came\":") s.came plain.came)
+    (field_plain (codes ",\"sent\":") s.sent plain.sent)
+    ∙ sym (append_assoc came (value ++ sent) (codes "}") ∙ ap (λ (l : List ℕ). came ++ l) (append_assoc value sent (codes "}")))
 
 -- the fields and the brace, in one row
 fields_closed : (s : Step) → plain_text s
-    ≡ codes "{\"actor\":\"" ++ (actor_text s.actor ++ (codes "\",\"do\":\"" ++ (s.action ++ plain_end s.came s.sent)))
+    ≡ codes "{\"actor\":\"" ++ (actor_text s.actor ++ (codes "\",\"do\":\"" ++ (s.action ++ 34 ∷ (plain_end s ++ codes "}"))))
 fields_closed s =
-    let ends = behind (codes "\",\"came\":\"") s.came ++ (behind (codes "\",\"sent\":\"") s.sent ++ codes "\"") in
-    let did = append_assoc s.action ends (codes "}") ∙ ap (λ (l : List ℕ). s.action ++ l) (end_closed s.came s.sent) in
     ap (λ (l : List ℕ). codes "{\"actor\":\"" ++ l)
-    (append_assoc (actor_text s.actor) (codes "\",\"do\":\"" ++ (s.action ++ ends)) (codes "}")
-    ∙ ap (λ (l : List ℕ). actor_text s.actor ++ (codes "\",\"do\":\"" ++ l)) did)
+    (append_assoc (actor_text s.actor) (codes "\",\"do\":\"" ++ (s.action ++ 34 ∷ plain_end s)) (codes "}")
+    ∙ ap (λ (l : List ℕ). actor_text s.actor ++ (codes "\",\"do\":\"" ++ l)) (append_assoc s.action (34 ∷ plain_end s) (codes "}")))
 
 -- the two lines are the same
 pub plain_text-json_text : (s : Step) → IsPlain s → plain_text s ≡ json_text s
 plain_text-json_text s plain =
-    let rest = escaped_end s.came s.sent in
-    let did : quoted s.action ++ rest ≡ 34 ∷ (s.action ++ plain_end s.came s.sent) =
-    quoted_plain s.action rest plain.action
-    ∙ ap (λ (l : List ℕ). 34 ∷ (s.action ++ l)) (ends_plain s.came s.sent plain.came plain.sent) in
+    let rest = with_name (codes ",\"came\":") s.came ++ (behind (codes ",\"value\":") (digits_of s.value)
+    ++ (with_name (codes ",\"sent\":") s.sent ++ codes "}")) in
+    let did : quoted s.action ++ rest ≡ 34 ∷ (s.action ++ 34 ∷ (plain_end s ++ codes "}")) =
+    quoted_plain s.action rest plain.action ∙ ap (λ (l : List ℕ). 34 ∷ (s.action ++ 34 ∷ l)) (ends_plain s plain) in
     let who = quoted_plain (actor_text s.actor) (codes ",\"do\":" ++ (quoted s.action ++ rest)) (letter_plain s.actor) in
     fields_closed s ∙ sym (ap (λ (l : List ℕ). codes "{\"actor\":" ++ l)
     (who ∙ ap (λ (l : List ℕ). 34 ∷ (actor_text s.actor ++ (34 ∷ (codes ",\"do\":" ++ l)))) did))

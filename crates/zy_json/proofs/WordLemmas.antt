@@ -1,16 +1,23 @@
 -- The words of the line of a log that a step says.
-use Rattle.std.proofs.Common.{◌≡◌, ℕ, suc, ◌<◌, ◌+◌, Bool, true, false, not, ◌||◌, ◌==◌, List, [], ◌∷◌, ◌++◌, length, take, codes, Option, Some, None, refl, sym, ap, ◌∙◌, subst, arith, append_assoc, append-nil}
+use Rattle.std.proofs.Common.{◌≡◌, ℕ, suc, ◌<◌, ◌≤◌, ◌+◌, Bool, true, false, not, ◌||◌, ◌==◌, List, [], ◌∷◌, ◌++◌, length, take, codes, Option, Some, None, refl, sym, ap, ◌∙◌, subst, arith, append_assoc, append-nil}
+use Rattle.std.specs.Char.{is_ascii_digit}
+use Rattle.std.specs.Fmt.{decimal}
 use Rattle.std.specs.Prelude.{IfSome, filter, All, if◌then◌else◌}
 use Rattle.std.specs.List.{list_any, prefix_len, slice_split, onto_first}
+use Rattle.std.specs.Str.{all_ascii_digits}
 use Rattle.std.proofs.lemmas.List.Elements.{filter-append, All-cons, All-filter, All-head, All-nil, All-tail}
 use Rattle.std.proofs.lemmas.List.Folds.{list_any-append}
 use Rattle.std.proofs.lemmas.List.Splits.{length-slice_split}
+use Rattle.zy_isa.proofs.ResultLemmas.{both}
+use Rattle.zy_isa.specs.Integers.{max_u32}
 use Rattle.zy_isa.specs.declared.node.Actor.{Actor}
 use Rattle.zy_isa.specs.declared.node.Actor.TheVariants.{C, A, B}
 use Rattle.zy_text.specs.Words.{is_space, is_word, lines_of, words_of, without_comment}
+use Rattle.zy_text.proofs.WordLemmas.{digits_of as all_digits, number_clean, split_spaced}
 use Rattle.zy_json.specs.Fields.{ends_part}
-use Rattle.zy_json.specs.Steps.{Step, actor_text, behind, log_text}
-use Rattle.zy_json.specs.Words.{IsPart, IsLine, signed, line_words}
+use Rattle.zy_json.specs.Steps.{Step, actor_text, behind, digits_of, log_text}
+use Rattle.zy_json.specs.Words.{IsPart, IsLine, IsShown, signed, numeral, line_words}
+use borrow.Author.Tests.{tests}
 
 -- ---- texts that lack a byte
 
@@ -101,6 +108,26 @@ sign_parted xs sign (Some text) alone h =
     ∙ ap (λ (l : List (List ℕ)). parted xs ++ l) (parted_space sign text ∙ ap (λ (l : List (List ℕ)). l ++ parted text) alone
     ∙ ap (λ (l : List (List ℕ)). sign ∷ l) (sym (words_are_parted text (part_lacks text h).0)))
 
+-- the digits of a value are no sign's end, and one word
+digits_part : (ds : List ℕ) → all_ascii_digits ds ≡ true → IsPart ds
+digits_part [] h = refl
+digits_part (d ∷ ds) h = let p = both (is_ascii_digit d) (all_ascii_digits ds) h in rw (digit_part d p.0, digits_part ds p.1) refl
+  where
+    digit_part : (d : ℕ) → is_ascii_digit d ≡ true → ends_part d ≡ false
+    digit_part d h = grind (arith, tests)
+
+value_part : (came : Option (List ℕ)) (o : Option ℕ) → IfSome o (IsShown came) → IfSome (digits_of o) IsPart
+value_part came None h = tt
+value_part came (Some n) h = let few : n ≤ max_u32 = h.0 in digits_part (decimal n) (all_digits n (omega arith))
+
+value_parted : (xs : List ℕ) (came : Option (List ℕ)) (o : Option ℕ) → IfSome o (IsShown came)
+    → parted (xs ++ behind (codes " ") (digits_of o)) ≡ parted xs ++ numeral o
+value_parted xs came None h = ap parted (append-nil xs) ∙ sym (append-nil (parted xs))
+value_parted xs came (Some n) h =
+    let few : n ≤ max_u32 = h.0 in
+    let clean = number_clean n (omega arith) in
+    parted_space xs (decimal n) ∙ ap (λ (l : List (List ℕ)). parted xs ++ l) (split_spaced (decimal n ∷ []) (rw (clean.0, clean.1) refl))
+
 -- what is behind a sign lacks what both lack
 behind_lacks : (b : ℕ) (sign : List ℕ) (o : Option (List ℕ)) → has b sign ≡ false → IfSome o (λ text. has b text ≡ false)
     → has b (behind sign o) ≡ false
@@ -122,34 +149,47 @@ parts_lack None h = (tt, tt)
 parts_lack (Some text) h = part_lacks text h
 
 -- a byte that neither the letter of an actor, a sign nor a text has
-log_lacks : (b : ℕ) (a : Actor) (what : List ℕ) (came sent : Option (List ℕ)) → has b (actor_text a) ≡ false → has b (32 ∷ what) ≡ false
-    → has b (codes " -> ") ≡ false → has b (codes " ! ") ≡ false
-    → IfSome came (λ text. has b text ≡ false) → IfSome sent (λ text. has b text ≡ false)
-    → has b (log_text (record { actor = a; action = what; came = came; sent = sent })) ≡ false
-log_lacks b a what came sent who did p q c s = lacks b (actor_text a) _ who (lacks b (32 ∷ what) _ did
-    (lacks b (behind (codes " -> ") came) (behind (codes " ! ") sent)
-    (behind_lacks b (codes " -> ") came p c) (behind_lacks b (codes " ! ") sent q s)))
+log_lacks : (b : ℕ) (s : Step) → has b (actor_text s.actor) ≡ false → has b (32 ∷ s.action) ≡ false
+    → has b (codes " -> ") ≡ false → has b (codes " ") ≡ false → has b (codes " ! ") ≡ false
+    → IfSome s.came (λ text. has b text ≡ false) → IfSome (digits_of s.value) (λ text. has b text ≡ false)
+    → IfSome s.sent (λ text. has b text ≡ false) → has b (log_text s) ≡ false
+log_lacks b s who did p q r c v e = lacks b (actor_text s.actor) _ who (lacks b (32 ∷ s.action) _ did
+    (lacks b (behind (codes " -> ") s.came) _ (behind_lacks b (codes " -> ") s.came p c)
+    (lacks b (behind (codes " ") (digits_of s.value)) _ (behind_lacks b (codes " ") (digits_of s.value) q v)
+    (behind_lacks b (codes " ! ") s.sent r e))))
+
+-- a step's line lacks the semicolon and the line feed
+line_lacks : (s : Step) → IsLine s → (has 59 (log_text s) ≡ false) × (has 10 (log_text s) ≡ false)
+line_lacks s line =
+    let who = letter_lacks s.actor in
+    let did = part_lacks s.action line.action in
+    let came = parts_lack s.came line.came in
+    let value = parts_lack (digits_of s.value) (value_part s.came s.value line.value) in
+    let sent = parts_lack s.sent line.sent in
+    (log_lacks 59 s who.0 did.0 refl refl refl came.0 value.0 sent.0, log_lacks 10 s who.1 did.1 refl refl refl came.1 value.1 sent.1)
+
+-- four lists, one after the other
+in_one_row : {X : Type 0} (a b c d : List X) → ((a ++ b) ++ c) ++ d ≡ a ++ (b ++ (c ++ d))
+in_one_row a b c d = append_assoc (a ++ b) c d ∙ append_assoc a b (c ++ d)
 
 -- ---- the three facts
 
 pub words_of-log_text : (s : Step) → IsLine s → words_of (log_text s) ≡ line_words s
 words_of-log_text s line =
     let c = behind (codes " -> ") s.came in
+    let v = behind (codes " ") (digits_of s.value) in
     let e = behind (codes " ! ") s.sent in
-    let first = letter_lacks s.actor in
-    let none_of : has 59 (log_text s) ≡ false = log_lacks 59 s.actor s.action s.came s.sent first.0 (part_lacks s.action line.action).0 refl refl
-    (parts_lack s.came line.came).0 (parts_lack s.sent line.sent).0 in
-    words_are_parted (log_text s) none_of ∙ parted_space (actor_text s.actor) (s.action ++ (c ++ e))
-    ∙ ap (λ (l : List (List ℕ)). l ++ parted (s.action ++ (c ++ e))) (letter_parted s.actor)
+    words_are_parted (log_text s) (line_lacks s line).0 ∙ parted_space (actor_text s.actor) (s.action ++ (c ++ (v ++ e)))
+    ∙ ap (λ (l : List (List ℕ)). l ++ parted (s.action ++ (c ++ (v ++ e)))) (letter_parted s.actor)
     ∙ ap (λ (l : List (List ℕ)). actor_text s.actor ∷ l)
-    (ap parted (sym (append_assoc s.action c e)) ∙ sign_parted (s.action ++ c) (codes "!") s.sent refl line.sent
-    ∙ ap (λ (l : List (List ℕ)). l ++ signed (codes "!") s.sent) (sign_parted s.action (codes "->") s.came refl line.came
-    ∙ ap (λ (l : List (List ℕ)). l ++ signed (codes "->") s.came) (sym (words_are_parted s.action (part_lacks s.action line.action).0)))
-    ∙ append_assoc (words_of s.action) (signed (codes "->") s.came) (signed (codes "!") s.sent))
+    (ap parted (sym (in_one_row s.action c v e)) ∙ sign_parted ((s.action ++ c) ++ v) (codes "!") s.sent refl line.sent
+    ∙ ap (λ (l : List (List ℕ)). l ++ signed (codes "!") s.sent) (value_parted (s.action ++ c) s.came s.value line.value
+    ∙ ap (λ (l : List (List ℕ)). l ++ numeral s.value) (sign_parted s.action (codes "->") s.came refl line.came
+    ∙ ap (λ (l : List (List ℕ)). l ++ signed (codes "->") s.came) (sym (words_are_parted s.action (part_lacks s.action line.action).0))))
+    ∙ in_one_row (words_of s.action) (signed (codes "->") s.came) (numeral s.value) (signed (codes "!") s.sent))
 
 pub lines_of-log_text : (s : Step) (below : List ℕ) → IsLine s → lines_of (log_text s ++ 10 ∷ below) ≡ log_text s ∷ lines_of below
-lines_of-log_text s below line = one_line (log_text s) below (log_lacks 10 s.actor s.action s.came s.sent (letter_lacks s.actor).1
-    (part_lacks s.action line.action).1 refl refl (parts_lack s.came line.came).1 (parts_lack s.sent line.sent).1)
+lines_of-log_text s below line = one_line (log_text s) below (line_lacks s line).1
 
 -- a word without a sign that ends a part
 abbrev Clean : List ℕ → Type 0

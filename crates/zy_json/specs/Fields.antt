@@ -8,6 +8,7 @@ abbrev pub key_of : Member → List ℕ
 key_of field.Actor = codes "actor"
 key_of field.Action = codes "do"
 key_of field.Came = codes "came"
+key_of field.Value = codes "value"
 key_of field.Sent = codes "sent"
 
 -- its name in quotation marks

@@ -1,7 +1,7 @@
 -- The step that a line of JSON tells, and what the reader's answers are.
 use Rattle.std.specs.Prelude.{◌≡◌, ◌≤◌, ℕ, List, [], ◌∷◌, length, Option, Some, None, Result, Ok, Err}
 use Rattle.std.specs.Borrow.{Bor}
-use Rattle.std.specs.Option.{option_copied}
+use Rattle.std.specs.Option.{option_copied, option_map}
 use Rattle.std.specs.Str.{IsUtf8}
 use Rattle.std.specs.declared.alloc.Global.{Global}
 use Rattle.json.specs.Json.{Json, object, Members, document}
@@ -35,7 +35,11 @@ Reads text (Err (NotJson at)) = ((j : Json) → ¬ IsJson text j) × (at ≤ len
 Reads text (Err Memory) = Unit {0}
 Reads text (Err fault) = Tells text (Err fault)
 
--- ---- for private clauses: what was found, as texts
+-- ---- for private clauses: what was found, as values and texts
+
+abbrev pub values_found : Result (Option (Bor (Value Global))) JsonFault → Result (Option Json) JsonFault
+values_found (Ok v) = Ok (option_map (λ j. value_view j.now) v)
+values_found (Err f) = Err f
 
 abbrev pub texts_found : Result (Option (Bor (List ℕ))) JsonFault → Result (Option (List ℕ)) JsonFault
 texts_found (Ok t) = Ok (option_copied t)

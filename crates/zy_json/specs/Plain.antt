@@ -1,7 +1,7 @@
 -- The line of JSON of a step whose texts need no escapes.
-use Rattle.std.specs.Prelude.{◌≡◌, ℕ, ◌==◌, ◌||◌, nat_lt, Bool, false, List, ◌++◌, codes, IfSome}
+use Rattle.std.specs.Prelude.{◌≡◌, ℕ, ◌==◌, ◌||◌, nat_lt, Bool, false, List, [], ◌++◌, codes, Option, Some, None, IfSome}
 use Rattle.std.specs.List.{list_any}
-use Rattle.zy_json.specs.Steps.{Step, actor_text, behind}
+use Rattle.zy_json.specs.Steps.{Step, actor_text, behind, digits_of}
 
 -- a sign that JSON escapes: a control character, `"` or `\`
 abbrev pub is_escaped : ℕ → Bool
@@ -16,14 +16,19 @@ pub record IsPlain (s : Step) : Type 0 where
   pub came : IfSome s.came IsPlainText
   pub sent : IfSome s.sent IsPlainText
 
--- {"actor":"ACTOR","do":"ACTION"[,"came":"CAME"][,"sent":"SENT"], without the brace at its end
+-- a name, and a text as it is in quotation marks; nothing, where there is no text
+abbrev pub plain_field : List ℕ → Option (List ℕ) → List ℕ
+plain_field name None = []
+plain_field name (Some text) = name ++ (codes "\"" ++ (text ++ codes "\""))
+
+-- {"actor":"ACTOR","do":"ACTION"[,"came":"CAME"][,"value":VALUE][,"sent":"SENT"], without the brace at its end
 abbrev pub plain_fields : Step → List ℕ
 plain_fields s =
     codes "{\"actor\":\"" ++ (actor_text s.actor
-    ++ (codes "\",\"do\":\"" ++ (s.action
-    ++ (behind (codes "\",\"came\":\"") s.came
-    ++ (behind (codes "\",\"sent\":\"") s.sent
-    ++ codes "\"")))))
+    ++ (codes "\",\"do\":\"" ++ (s.action ++ (codes "\""
+    ++ (plain_field (codes ",\"came\":") s.came
+    ++ (behind (codes ",\"value\":") (digits_of s.value)
+    ++ plain_field (codes ",\"sent\":") s.sent))))))
 
 abbrev pub plain_text : Step → List ℕ
 plain_text s = plain_fields s ++ codes "}"

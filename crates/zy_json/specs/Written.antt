@@ -1,30 +1,26 @@
 -- The line of JSON for a step.
-use Rattle.std.specs.Prelude.{◌≡◌, ℕ, List, [], ◌∷◌, ◌++◌, codes, Option, Some, None, IfSome, Result, Ok, Err}
+use Rattle.std.specs.Prelude.{◌≡◌, ℕ, List, [], ◌++◌, codes, Option, Some, None, IfSome, Result, Ok, Err}
 use Rattle.std.specs.Str.{IsUtf8}
 use Rattle.json.specs.Print.{quoted}
-use Rattle.json.specs.Token as token
-use Rattle.json.specs.Token.{Token}
 use Rattle.zy_json.specs.declared.faults.JsonFault.{JsonFault}
 use Rattle.zy_json.specs.declared.faults.JsonFault.TheVariants.{Memory}
-use Rattle.zy_json.specs.declared.field.Member.{Member}
-use Rattle.zy_json.specs.declared.field.Member.TheVariants as field
 use Rattle.zy_json.specs.declared.step.JsonStep.{JsonStep}
-use Rattle.zy_json.specs.Fields.{key_of}
-use Rattle.zy_json.specs.Steps.{Step, actor_text, step_of}
+use Rattle.zy_json.specs.Steps.{Step, actor_text, behind, digits_of, step_of}
 
 -- a name, its colon and a string; nothing, where there is no text
 abbrev pub with_name : List ℕ → Option (List ℕ) → List ℕ
 with_name name None = []
 with_name name (Some text) = name ++ quoted text
 
--- {"actor":ACTOR,"do":ACTION[,"came":CAME][,"sent":SENT]}
+-- {"actor":ACTOR,"do":ACTION[,"came":CAME][,"value":VALUE][,"sent":SENT]}
 abbrev pub json_text : Step → List ℕ
 json_text s =
     codes "{\"actor\":" ++ (quoted (actor_text s.actor)
     ++ (codes ",\"do\":" ++ (quoted s.action
     ++ (with_name (codes ",\"came\":") s.came
+    ++ (behind (codes ",\"value\":") (digits_of s.value)
     ++ (with_name (codes ",\"sent\":") s.sent
-    ++ codes "}")))))
+    ++ codes "}"))))))
 
 -- the texts of a step are in UTF-8
 pub record IsInUtf8 (s : Step) : Type 0 where
@@ -37,17 +33,3 @@ abbrev pub IsReadAs : Step → Result JsonStep JsonFault → Type 0
 IsReadAs s (Ok x) = step_of x ≡ s
 IsReadAs s (Err Memory) = Unit {0}
 IsReadAs s (Err fault) = ⊥
-
--- ---- for proofs: the tokens of the text
-
-abbrev pub field_tokens : Member → List ℕ → List Token
-field_tokens f text = token.key (key_of f) ∷ token.string text ∷ []
-
-abbrev pub some_tokens : Member → Option (List ℕ) → List Token
-some_tokens f None = []
-some_tokens f (Some text) = field_tokens f text
-
--- all tokens of a step
-abbrev pub step_tokens : Step → List Token
-step_tokens s = token.begin_object ∷ (field_tokens field.Actor (actor_text s.actor) ++ (field_tokens field.Action s.action
-    ++ (some_tokens field.Came s.came ++ (some_tokens field.Sent s.sent ++ token.end_object ∷ []))))

@@ -5,7 +5,7 @@ use std::alloc::AllocError;
 use thiserror::Error;
 
 /// Why a line is none of a log in JSON. Of several faults the first is reported, in the order of the variants up to `NotObject`,
-/// and then field by field: `actor`, `do`, `came`, `sent`.
+/// and then field by field: `actor`, `do`, `came`, `value`, `sent`.
 #[derive(Clone, Copy, Debug, PartialEq, Eq, Error)]
 pub enum JsonFault {
     /// The line is no JSON text in UTF-8. The number says about where: how many bytes were passed before the reader stopped. It
@@ -24,6 +24,12 @@ pub enum JsonFault {
     /// The value of this field is no string.
     #[error("the field {0} is no string; leave it out where there is nothing to tell")]
     NotString(Member),
+    /// The `value` is no number from 0 to 4294967295 in digits alone.
+    #[error("the field \"value\" is a whole number from 0 to 4294967295, as 7; leave it out where there is nothing to tell")]
+    NotNumber,
+    /// There is a `value`, and what came of the step is not `did`.
+    #[error("the field \"value\" stands beside \"came\":\"did\" alone")]
+    NotDid,
     /// The actor is none of the three.
     #[error("the field \"actor\" is \"C\", \"A\" or \"B\"")]
     NoActor,

@@ -13,6 +13,8 @@ pub enum Member {
     Action,
     /// What came of it, under `came`, as `committed 1`. It may be left out.
     Came,
+    /// The value that the step shows, under `value`, as 7. It may be left out.
+    Value,
     /// The kind of the message that was sent, under `sent`, as `pull`. It may be left out.
     Sent,
 }
@@ -26,6 +28,7 @@ impl Member {
             Member::Actor => "actor",
             Member::Action => "do",
             Member::Came => "came",
+            Member::Value => "value",
             Member::Sent => "sent",
         }
     }

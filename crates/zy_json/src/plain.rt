@@ -1,8 +1,8 @@
 //! Steps whose texts are made as they are written.
 ghost use Rattle.std.specs.Prelude.{option_map};
-ghost use Rattle.zy_json.specs.Plain.{plain_fields, plain_text};
+ghost use Rattle.zy_json.specs.Plain.{plain_field, plain_fields, plain_text};
 
-use crate::step::{Behind, letter};
+use crate::step::{Behind, digits_of, letter};
 use std::alloc::AllocError;
 use zy_io::{Line, LineBuffer, joined};
 use zy_isa::Actor;
@@ -17,6 +17,8 @@ pub struct PlainStep<D, C, S> {
     pub action: D,
     /// What came of it; none, if the line says nothing of it.
     pub came: Option<C>,
+    /// The value that the step shows; none, if the line says nothing of it.
+    pub value: Option<u32>,
     /// The kind of the message that was sent; none, if the line names none.
     pub sent: Option<S>,
 }
@@ -26,11 +28,27 @@ impl<D: Line + Copy, C: Line + Copy, S: Line + Copy> Line for PlainStep<D, C, S>
       actor = s.actor;
       action = D.text s.action;
       came = option_map C.text s.came;
+      value = s.value;
       sent = option_map S.text s.sent;
     }) };
 
     fn append(&self, line: &mut LineBuffer) -> Result<(), AllocError> {
         joined!(PlainFields(*self), "}").append(line)
+    }
+}
+
+/// A name, and a text as it is in quotation marks; nothing, where there is no text.
+#[derive(Clone, Copy)]
+struct PlainField<T>(&'static str, Option<T>);
+
+impl<T: Line + Copy> Line for PlainField<T> {
+    ghost text = { λ f. plain_field f.0.now (option_map T.text f.1) };
+
+    fn append(&self, line: &mut LineBuffer) -> Result<(), AllocError> {
+        match self.1 {
+            Some(text) => joined!(self.0, b'"', text, b'"').append(line),
+            None => Ok(()),
+        }
     }
 }
 
@@ -43,6 +61,7 @@ impl<D: Line + Copy, C: Line + Copy, S: Line + Copy> Line for PlainFields<D, C, 
       actor = f.0.actor;
       action = D.text f.0.action;
       came = option_map C.text f.0.came;
+      value = f.0.value;
       sent = option_map S.text f.0.sent;
     }) };
 
@@ -53,9 +72,10 @@ impl<D: Line + Copy, C: Line + Copy, S: Line + Copy> Line for PlainFields<D, C, 
             letter(step.actor),
             "\",\"do\":\"",
             step.action,
-            Behind("\",\"came\":\"", step.came),
-            Behind("\",\"sent\":\"", step.sent),
             b'"',
+            PlainField(",\"came\":", step.came),
+            Behind(",\"value\":", digits_of(step.value)),
+            PlainField(",\"sent\":", step.sent),
         )
         .append(line)
     }

@@ -1,10 +1,11 @@
 //! Reads a line of JSON.
 ghost use Rattle.std.specs.Prelude.{◌≡◌, ◌≤◌, length, IfOk};
 ghost use Rattle.std.specs.List.{list_any};
+ghost use Rattle.std.specs.Option.{option_copied};
 ghost use Rattle.json.specs.Value.{members_view, value_view};
 ghost use Rattle.zy_json.specs.Fields as fields;
 ghost use Rattle.zy_json.specs.Meaning as meaning;
-ghost use Rattle.zy_json.specs.Meaning.{FindsMember, Reads, step_found, text_found, texts_found};
+ghost use Rattle.zy_json.specs.Meaning.{FindsMember, Reads, step_found, text_found, texts_found, values_found};
 ghost use Rattle.zy_json.specs.Objects as spec;
 
 use crate::faults::JsonFault;
@@ -13,6 +14,7 @@ use crate::step::JsonStep;
 use json::{Error, Reader, Scratch, Value};
 use std::alloc::{AllocError, Global};
 use zy_isa::Actor;
+use zy_text::numbers::number_of;
 
 /// The first member of a name, and those behind it.
 fn find<'v, 'a>(
@@ -31,12 +33,12 @@ fn find<'v, 'a>(
     None
 }
 
-/// The text of a field, if it is there.
-fn text_of<'a>(
+/// The value of a field, if it is there.
+fn value_of<'v, 'a>(
     field: Member,
-    members: &[(&'a str, Value<'a>)],
-) -> Result<Option<&'a str>, JsonFault>
-    ensures { texts_found result ≡ spec.text_of field (members_view members.now) }
+    members: &'v [(&'a str, Value<'a>)],
+) -> Result<Option<&'v Value<'a>>, JsonFault>
+    ensures { values_found result ≡ spec.found field (members_view members.entry.now) }
 {
     let Some((value, behind)) = find(field.key(), members) else {
         return Ok(None);
@@ -44,6 +46,19 @@ fn text_of<'a>(
     if find(field.key(), behind).is_some() {
         return Err(JsonFault::Twice(field));
     }
+    Ok(Some(value))
+}
+
+/// The text of a field, if it is there.
+fn text_of<'a>(
+    field: Member,
+    members: &[(&'a str, Value<'a>)],
+) -> Result<Option<&'a str>, JsonFault>
+    ensures { texts_found result ≡ spec.text_of field (members_view members.now) }
+{
+    let Some(value) = value_of(field, members)? else {
+        return Ok(None);
+    };
     match value.as_str() {
         Some(text) => Ok(Some(text)),
         None => Err(JsonFault::NotString(field)),
@@ -77,6 +92,60 @@ fn part_of<'a>(
                 Err(JsonFault::Sign(field))
             } else {
                 Ok(Some(text))
+            }
+        }
+        None => Ok(None),
+    }
+}
+
+/// The number that a value is.
+fn number_in(value: &Value<'_>) -> Option<u32>
+    ensures { result ≡ spec.number_in (value_view value.now) }
+{
+    let number = number_of(value.as_number()?.as_bytes())?;
+    if number <= u64::from(u32::MAX) {
+        Some(number as u32)
+    } else {
+        None
+    }
+}
+
+/// The number under `value`, if it is there.
+fn number_told<'a>(members: &[(&'a str, Value<'a>)]) -> Result<Option<u32>, JsonFault>
+    ensures { result ≡ spec.number_told (members_view members.now) }
+{
+    let Some(value) = value_of(Member::Value, members)? else {
+        return Ok(None);
+    };
+    match number_in(value) {
+        Some(number) => Ok(Some(number)),
+        None => Err(JsonFault::NotNumber),
+    }
+}
+
+/// Whether what came of a step is that it did.
+fn is_did(came: Option<&str>) -> bool
+    ensures { result ≡ spec.is_did (option_copied came.entry) }
+{
+    match came {
+        Some(came) => came == "did",
+        None => false,
+    }
+}
+
+/// The value that a step shows, beside what came of it.
+fn value_in<'a>(
+    came: Option<&str>,
+    members: &[(&'a str, Value<'a>)],
+) -> Result<Option<u32>, JsonFault>
+    ensures { result ≡ spec.value_in (option_copied came.entry) (members_view members.now) }
+{
+    match number_told(members)? {
+        Some(number) => {
+            if is_did(came) {
+                Ok(Some(number))
+            } else {
+                Err(JsonFault::NotDid)
             }
         }
         None => Ok(None),
@@ -122,11 +191,13 @@ fn step_in<'a>(members: &[(&'a str, Value<'a>)]) -> Result<JsonStep<'a>, JsonFau
     let actor = actor_in(members)?;
     let action = action_in(members)?;
     let came = part_of(Member::Came, members)?;
+    let value = value_in(came, members)?;
     let sent = part_of(Member::Sent, members)?;
     Ok(JsonStep {
         actor,
         action,
         came,
+        value,
         sent,
     })
 }
@@ -161,11 +232,14 @@ fn fault_place(alloc: Global, line: &[u8]) -> Result<usize, AllocError>
     }
 }
 
-/// Reads a line of a log in JSON: one object with the fields `actor` and `do`, and with `came` and `sent` or without. Their order
-/// is free, and so is white space between the signs of JSON. A string may have escapes, and so may the name of a field.
+/// Reads a line of a log in JSON: one object with the fields `actor` and `do`, and with `came`, `value` and `sent` or without. Their
+/// order is free, and so is white space between the signs of JSON. A string may have escapes, and so may the name of a field.
+///
+/// A `value` stands beside a `came` that is `did`. It is a number from 0 to 4294967295 in digits alone: one with a sign, a point or an
+/// exponent, as `7.0` or `7e0`, is rejected, also where it is whole.
 ///
 /// Other fields are passed over, whatever their values are and however often they come, since a store logs more, as a time. So a
-/// name that is misspelled is passed over, too. One of the four fields is rejected if it comes twice, and so is one that is `null`:
+/// name that is misspelled is passed over, too. One of the five fields is rejected if it comes twice, and so is one that is `null`:
 /// where there is nothing to tell, it is left out.
 ///
 /// The texts of the step lie in the line or, where they have escapes, in `scratch`, which serves one line after the other.

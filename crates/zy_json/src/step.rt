@@ -1,9 +1,9 @@
 //! What a line tells of a step.
-ghost use Rattle.std.specs.Prelude.{◌≡◌};
+ghost use Rattle.std.specs.Prelude.{◌≡◌, option_map};
 ghost use Rattle.zy_json.specs.Steps.{actor_text, behind, log_text, step_of};
 
 use std::alloc::AllocError;
-use zy_io::{Line, LineBuffer, joined};
+use zy_io::{Decimal, Line, LineBuffer, joined};
 use zy_isa::Actor;
 
 /// What a line of a log tells of a step, part by part, in the words of the text format.
@@ -15,11 +15,13 @@ pub struct JsonStep<'a> {
     pub action: &'a str,
     /// What came of it, as `committed 1`; none, if the line says nothing of it.
     pub came: Option<&'a str>,
+    /// The value that the step shows, as 7; none, if the line says nothing of it.
+    pub value: Option<u32>,
     /// The kind of the message that was sent, as `pull`; none, if the line names none.
     pub sent: Option<&'a str>,
 }
 
-/// A step as the line of a log that tells it, as `A run 0 -> did ! pull`.
+/// A step as the line of a log that tells it, as `A run 0 -> did 7`.
 #[derive(Clone, Copy)]
 pub struct LogText<'a>(pub JsonStep<'a>);
 
@@ -51,6 +53,16 @@ impl<T: Line + Copy> Line for Behind<'_, T> {
     }
 }
 
+/// The digits of a number, if there is one.
+pub(crate) fn digits_of(number: Option<u32>) -> Option<Decimal<u32>>
+    ensures { option_map (λ d. d.0) result ≡ number }
+{
+    match number {
+        Some(number) => Some(Decimal(number)),
+        None => None,
+    }
+}
+
 impl Line for LogText<'_> {
     ghost text = { λ t. log_text (step_of t.0) };
 
@@ -61,6 +73,7 @@ impl Line for LogText<'_> {
             b' ',
             step.action,
             Behind(" -> ", step.came),
+            Behind(" ", digits_of(step.value)),
             Behind(" ! ", step.sent),
         )
         .append(line)
