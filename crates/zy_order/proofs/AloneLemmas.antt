@@ -31,7 +31,7 @@ use Rattle.zy_order.specs.declared.logs.Logs.{Logs}
 use Rattle.zy_order.specs.declared.cursors.Cursor.{Cursor}
 use Rattle.zy_order.specs.declared.cursors.Cursors.{Cursors}
 use Rattle.zy_order.specs.Gaps.{gaps_of}
-use Rattle.zy_table.specs.Observations.{observation_at}
+use Rattle.zy_table.specs.Observations.{observation_at, observations}
 use Rattle.zy_search.specs.Stuck.{is_still}
 use Rattle.zy_search.proofs.StillSteps.{still_stays}
 use Rattle.zy_order.specs.Ways.{log_of, cursor_of, cursor, gap_at, passed, filled, moved, advanced}
