@@ -11,6 +11,7 @@ use Rattle.std.proofs.lemmas.Slice.Eq.{bytes_eq-Decides}
 use borrow.Author.Tests.{tests}
 use Rattle.zy_table.specs.declared.outcome.Outcome.{Outcome}
 use Rattle.zy_table.specs.declared.outcome.Outcome.TheVariants as outcome
+use Rattle.zy_isa.specs.Limits.{max_key}
 use Rattle.zy_isa.specs.Results.{◌>>=◌}
 use Rattle.zy_isa.proofs.ResultLemmas.{bind_ok, neither}
 use Rattle.zy_text.specs.Names as text_names
@@ -160,7 +161,7 @@ most_follows most ws =
 
 -- a page or a key
 page_follows : (ws : List Word) → Follows (log_part.or_none log_part.page ws) (phrase.page_or_none ws)
-page_follows ws = most_follows 65535 ws
+page_follows ws = most_follows max_key ws
 
 -- a node
 node_follows : (ws : List Word) → Follows (log_part.or_none log_part.node_at ws) (phrase.one_or_none (word.node (first ws)) ws)

@@ -23,6 +23,7 @@ use Rattle.zy_text.specs.Words.{is_word, has_words, spaced}
 use Rattle.zy_listing.specs.Texts.{why_text, kind_text, outcome_text, sent_text, step_text}
 use Rattle.zy_logs.specs.InFull.{IsPage, HasPage, IsTold, reason_words, outcome_words, kind_word, sent_words, step_words}
 use Rattle.zy_text.proofs.WordLemmas.{is_clean, are_clean, number_clean, digits_of, clean_choice}
+use Rattle.zy_log_laws.specs.ReadBack.{without_value}
 
 -- ---- words with a space between them
 
@@ -118,7 +119,7 @@ told_spaced o (Some kind) =
     ∙ sym (spaced_more (outcome_words o) (codes "!" ∷ kind_word kind ∷ []) (outcome_told o).1 refl)
 
 -- the text of a step
-pub step_spaced : (i : ℕ) (e : Entry) → step_text i e ≡ spaced (decimal i ∷ step_words e)
+pub step_spaced : (i : ℕ) (e : Entry) → step_text i e ≡ spaced (decimal i ∷ step_words (without_value e))
 step_spaced i e =
     let told = outcome_words e.outcome ++ sent_words e.sent in
     let arrow = sym (spaced_front (codes "->") told (some_more (outcome_words e.outcome) (sent_words e.sent) (outcome_told e.outcome).1)) in
@@ -230,8 +231,8 @@ sent_clean (Some kind.Done) = refl
 
 -- the words of a step
 pub step_clean : (count i : ℕ) (e : Entry) → count ≤ 64 → i < 2 ^ 32 → names_below count e.choice ≡ true → IsTold count e.outcome
-    → are_clean (decimal i ∷ step_words e) ≡ true
+    → are_clean (decimal i ∷ step_words (without_value e)) ≡ true
 step_clean count i e most few named h =
-    clean_more (decimal i ∷ []) (step_words e) (one_clean i few)
+    clean_more (decimal i ∷ []) (step_words (without_value e)) (one_clean i few)
     (clean_more (choice_words e.choice) (codes "->" ∷ (outcome_words e.outcome ++ sent_words e.sent)) (clean_choice e.choice count most named).0
     (clean_more (outcome_words e.outcome) (sent_words e.sent) (outcome_clean count e.outcome most h) (sent_clean e.sent)))

@@ -1,6 +1,7 @@
 -- Lines of a listing that are read as the steps that they were written for.
-use Rattle.std.specs.Prelude.{◌≡◌, ◌&&◌, ◌||◌, ℕ, Bool, List, [], ◌∷◌, codes, Ok}
+use Rattle.std.specs.Prelude.{◌≡◌, ◌&&◌, ◌||◌, ℕ, Bool, List, [], ◌∷◌, codes, None, Ok}
 use Rattle.zy_table.specs.declared.entry.Entry.{Entry}
+use Rattle.zy_table.specs.declared.observation.Observation.{Observation}
 use Rattle.zy_text.specs.Words.{words_of}
 use Rattle.zy_logs.specs.declared.log_line.Logged.TheVariants.{Step}
 use Rattle.zy_logs.specs.declared.txns.Txns.{Txns}
@@ -8,10 +9,14 @@ use Rattle.zy_logs.specs.InFull.{in_full, IsTold}
 use Rattle.zy_logs.specs.Lines.{line_of}
 use Rattle.zy_logs.specs.Words.{Word, after, begin_with}
 
--- the words of each line behind its first word are a line of a log, which leaves nothing of the step out
+-- what a listing shows of a step: no value
+abbrev pub without_value : Entry → Observation
+without_value e = record { entry = e; value = None }
+
+-- the words of each line behind its first word are a line of a log, which leaves nothing out of what the listing shows of the step
 abbrev pub AreReadBack : Txns → List (List ℕ) → List Entry → Type 0
 AreReadBack txns [] [] = Unit {0}
-AreReadBack txns (text ∷ texts) (e ∷ es) = (line_of txns (after (words_of text)) ≡ Ok (Step (in_full e))) × AreReadBack txns texts es
+AreReadBack txns (text ∷ texts) (e ∷ es) = (line_of txns (after (words_of text)) ≡ Ok (Step (in_full (without_value e)))) × AreReadBack txns texts es
 AreReadBack txns texts es = ⊥
 
 -- the numbers of each outcome are ones that a line may have
