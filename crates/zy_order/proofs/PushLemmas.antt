@@ -26,41 +26,38 @@ use Rattle.zy_order.specs.declared.cursors.Cursors.{Cursors}
 use Rattle.zy_order.specs.declared.plan.Plan.{Plan}
 use Rattle.zy_order.specs.declared.reached.Reached.{Reached}
 use Rattle.zy_order.specs.declared.search.Search.{Search}
-use Rattle.zy_order.specs.declared.search.Position.{Position}
+use Rattle.zy_search.specs.declared.branch.Branch.{Branch}
 use Rattle.zy_table.specs.Observations.{observation_at}
 use Rattle.zy_order.specs.Ways.{log_of, cursor, at_start, cursors_in, advanced, NeedNoMore, Leads}
 use Rattle.zy_order.specs.Reaches.{cursors_at, observation_by, state_by, IsKnown, IsReached, IsUnderWay, IsSearch, IsWayOf}
-use Rattle.zy_order.specs.Reaches.{IsAt, StandsAt, IsNext, GoesOn, Adds, KeepsOthers}
+use Rattle.zy_order.specs.Reaches.{StandsAt, IsNext, GoesOn, HasMade, Adds, KeepsOthers}
 use Rattle.zy_order.proofs.NeedLemmas.{need_self}
 use Rattle.zy_order.proofs.WayLemmas.{way_push}
 use Rattle.zy_order.proofs.ReachLemmas.{extends_on, extends_same}
 
--- A choice leads on from a position, and its path is added to what was reached.
-module _ (s : Search) (here : Position) (c : Choice) (to : Cursors) (on : GoesOn s here c to) (new : Reached)
-    (paths : new.visited ≡ s.reached.visited ++ (path_at s.reached.visited here.at ++ c ∷ []) ∷ [])
+-- A branch leads on, and its path is added to what was reached.
+module _ (p : Plan) (s : Search) (b : Branch) (to : Cursors) (on : GoesOn p s b to) (new : Reached)
+    (paths : new.visited ≡ s.reached.visited ++ (path_at s.reached.visited b.from ++ b.by ∷ []) ∷ [])
     (cursors : new.cursors.items ≡ s.reached.cursors.items ++ to ∷ []) (todo : new.todo.items ≡ s.reached.todo.items ++ length s.reached.visited ∷ [])
     (room : length s.reached.visited + 1 < 2 ^ 32) where
-  abbrev p : Plan
-  p = here.plan.now
-
   abbrev r : Reached
   r = s.reached
 
   is : IsReached p r
-  is = on.at.search.under_way.reached
+  is = on.search.under_way.reached
 
   -- the new path
   abbrev path : List Choice
-  path = path_at r.visited here.at ++ c ∷ []
+  path = path_at r.visited b.from ++ b.by ∷ []
 
   -- it goes along the logs
   way_new : IsWayOf p path to
   way_new =
-      way_push p.start.scenario p.logs at_start p.start.state (path_at r.visited here.at) (cursors_at r here.at) c to (is.ways here.at on.at.there) on.leads
+      way_push p.start.scenario p.logs at_start p.start.state (path_at r.visited b.from) (cursors_at r b.from) b.by to (is.ways b.from on.there) on.leads
 
   -- the state where it leads
-  reached_new : reached p.start path ≡ state_by p.start r here.at c
-  reached_new = reached_more p.start (path_at r.visited here.at) c
+  reached_new : reached p.start path ≡ state_by p.start r b.from b.by
+  reached_new = reached_more p.start (path_at r.visited b.from) b.by
 
   -- there is one path more
   longer : length new.visited ≡ length r.visited + 1
@@ -124,7 +121,7 @@ module _ (s : Search) (here : Position) (c : Choice) (to : Cursors) (on : GoesOn
   grows_new = subst (Grows r.visited) (sym paths) (grows_push r.visited path)
 
   -- where the branch leads is known
-  pub known_new : IsKnown p.start new to (state_by p.start r here.at c)
+  pub known_new : IsKnown p.start new to (state_by p.start r b.from b.by)
   known_new = (
     length r.visited,
     omega (arith, longer),
@@ -141,7 +138,7 @@ module _ (s : Search) (here : Position) (c : Choice) (to : Cursors) (on : GoesOn
         here = record {
           scenario = on.next.scenario;
           state = on.next.state ∙ (sym reached_new ∙ ap (reached p.start) (sym (new_path place e)));
-          entries = omega (arith, on.next.longer, n, length-append (path_at r.visited here.at) (c ∷ []));
+          entries = omega (arith, on.next.longer, n, length-append (path_at r.visited b.from) (b.by ∷ []));
         };
       }
 
@@ -151,9 +148,9 @@ module _ (s : Search) (here : Position) (c : Choice) (to : Cursors) (on : GoesOn
       → Adds p s (record { reached = new; recent = recent; twin = m })
   adds_new place recent m e scenario put = record {
     search = record {
-      under_way = record { plan = on.at.search.under_way.plan; reached = reached_push };
+      under_way = record { plan = on.search.under_way.plan; reached = reached_push };
       recent =
-          put (recent_grown p.start r.visited new.visited s.recent grows_new on.at.search.recent) (twin_there place e);
+          put (recent_grown p.start r.visited new.visited s.recent grows_new on.search.recent) (twin_there place e);
       twin = scenario;
     };
     extends = record { paths = grows_new; cursors = old_cursors };
@@ -217,26 +214,30 @@ pub observation_here : (h : History) (r : Reached) (at : ℕ) (m : History) (c :
 observation_here h r at m c here =
     ap (λ (sc : Scenario). observation_at sc m.state c) here.scenario ∙ ap (λ (s : State). observation_at h.scenario s c) here.state
 
--- where the twin has made a choice that leads on, the search goes on by it
-pub goes_on : (s : Search) (here : Position) (c : Choice) (to : Cursors) (twin : History) → IsAt here s → twin.scenario ≡ here.machine.now.scenario
-    → twin.state ≡ (step here.machine.now.scenario c here.machine.now.state).after → length twin.entries ≡ length here.machine.now.entries + 1
-    → Leads (length here.plan.now.start.scenario.programs) here.plan.now.logs (cursors_at s.reached here.at)
-    (observation_by here.plan.now.start s.reached here.at c) to
-    → GoesOn (record s { twin = twin }) here c to
-goes_on s here c to twin is scenario state longer leads =
-    let sc = here.plan.now.start.scenario in
-    let m = here.machine.now in
-    let same : twin.scenario ≡ sc = scenario ∙ is.machine.scenario in
+-- a twin that has made a choice from the state of a machine where a path leads is next to it
+pub is_next : (p : Plan) (s : Search) (at : ℕ) (m : History) (c : Choice) (twin : History) → StandsAt p s at m → twin.scenario ≡ m.scenario
+    → twin.state ≡ (step m.scenario c m.state).after → length twin.entries ≡ length m.entries + 1 → IsNext p.start s.reached at c twin
+is_next p s at m c twin is scenario state longer =
+    let sc = p.start.scenario in
     let first : (step m.scenario c m.state).after ≡ (step sc c m.state).after = ap (λ (x : Scenario). (step x c m.state).after) is.machine.scenario in
     record {
-      at = record { search = search_twin here.plan.now s twin is.search same; there = is.there; machine = is.machine };
-      leads = leads;
-      next = record {
-        scenario = same;
-        state = state ∙ (first ∙ ap (λ (x : State). (step sc c x).after) is.machine.state);
-        longer = omega (arith, is.machine.entries, longer);
-      };
+      scenario = scenario ∙ is.machine.scenario;
+      state = state ∙ (first ∙ ap (λ (x : State). (step sc c x).after) is.machine.state);
+      longer = omega (arith, is.machine.entries, longer);
     }
+
+-- with it the search has made the choice of a line
+pub has_made : (p : Plan) (s : Search) (at : ℕ) (m : History) (x : Actor) (line : LogLine) (shown : Observation) (twin : History) → StandsAt p s at m
+    → slice_get (log_of x p.logs) (cursor x (cursors_at s.reached at)) ≡ Some line → twin.scenario ≡ m.scenario
+    → twin.state ≡ (step m.scenario line.choice m.state).after → length twin.entries ≡ length m.entries + 1
+    → shown ≡ observation_at m.scenario m.state line.choice → HasMade p (record s { twin = twin }) at x line shown
+has_made p s at m x line shown twin is next scenario state longer came = record {
+  search = search_twin p s twin is.search (scenario ∙ is.machine.scenario);
+  there = is.there;
+  next = next;
+  made = is_next p s at m line.choice twin is scenario state longer;
+  came = came ∙ observation_here p.start s.reached at m line.choice is.machine;
+}
 
 -- the next line of an actor leads on where it agrees with what comes of its choice
 pub line_leads : (count : ℕ) (l : Logs) (g : Cursors) (o : Observation) (x : Actor) (line : LogLine) (to : Cursors)
@@ -281,17 +282,17 @@ pub adds_recent : (p : Plan) (s t : Search) → KeepsOthers p s t → IsSearch p
 adds_recent p s t new is = adds_none p s t (search_recent p s t new is) new.reached
 
 -- it goes on as before
-pub goes_on_recent : (s t : Search) (here : Position) (c : Choice) (to : Cursors) → KeepsOthers here.plan.now s t → GoesOn s here c to → GoesOn t here c to
-goes_on_recent s t here c to new on =
-    let p = here.plan.now in
+pub goes_on_recent : (p : Plan) (s t : Search) (b : Branch) (to : Cursors) → KeepsOthers p s t → GoesOn p s b to → GoesOn p t b to
+goes_on_recent p s t b to new on =
     let h = p.start in
     record {
-      at = stands_on p s t here.at here.machine.now (adds_recent p s t new on.at.search) on.at;
+      search = search_recent p s t new on.search;
+      there = subst (λ (r : Reached). b.from < length r.visited) (sym new.reached) on.there;
       leads =
-          subst (λ (r : Reached). Leads (length h.scenario.programs) p.logs (cursors_at r here.at) (observation_by h r here.at c) to) (sym new.reached) on.leads;
+          subst (λ (r : Reached). Leads (length h.scenario.programs) p.logs (cursors_at r b.from) (observation_by h r b.from b.by) to) (sym new.reached) on.leads;
       next =
-          subst (λ (r : Reached). IsNext h r here.at c t.twin) (sym new.reached)
-          (subst (λ (m : History). IsNext h s.reached here.at c m) (sym new.twin) on.next);
+          subst (λ (r : Reached). IsNext h r b.from b.by t.twin) (sym new.reached)
+          (subst (λ (m : History). IsNext h s.reached b.from b.by m) (sym new.twin) on.next);
     }
 
 -- what was known of its twin is known

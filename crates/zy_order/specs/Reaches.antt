@@ -17,6 +17,7 @@ use Rattle.zy_logs.specs.Agrees.{Agrees}
 use Rattle.zy_patterns.specs.declared.patterns.OutcomePattern.{OutcomePattern}
 use Rattle.zy_patterns.specs.declared.patterns.OutcomePattern.TheVariants as pattern
 use Rattle.zy_logs.specs.declared.log_line.LogLine.{LogLine}
+use Rattle.zy_search.specs.declared.branch.Branch.{Branch}
 use Rattle.zy_search.specs.declared.kinds.ChoiceKinds.{ChoiceKinds}
 use Rattle.zy_search.specs.Choices.{considered}
 use Rattle.zy_search.specs.Searches.{reached}
@@ -259,12 +260,20 @@ IsMetBy h r i x line met.Unfit = Agrees line (observation_by h r i line.choice) 
 IsMetBy h r i x line met.Known = LeadsOn h r i x line
 IsMetBy h r i x line met.Spent = Unit {0}
 
--- a choice leads on from a position to cursors, and the twin has made it
-pub record GoesOn (s : Search) (here : Position) (c : Choice) (to : Cursors) : Type 0 where
-  pub at : IsAt here s
-  pub leads : Leads (length here.plan.now.start.scenario.programs) here.plan.now.logs (cursors_at s.reached here.at)
-      (observation_by here.plan.now.start s.reached here.at c) to
-  pub next : IsNext here.plan.now.start s.reached here.at c s.twin
+-- a branch leads on to cursors, and the twin has made its choice
+pub record GoesOn (p : Plan) (s : Search) (b : Branch) (to : Cursors) : Type 0 where
+  pub search : IsSearch p s
+  pub there : b.from < length s.reached.visited
+  pub leads : Leads (length p.start.scenario.programs) p.logs (cursors_at s.reached b.from) (observation_by p.start s.reached b.from b.by) to
+  pub next : IsNext p.start s.reached b.from b.by s.twin
+
+-- the twin has made the choice of an actor's next line where the path at a place leads, and this is what its step shows
+pub record HasMade (p : Plan) (s : Search) (at : ℕ) (x : Actor) (line : LogLine) (shown : Observation) : Type 0 where
+  pub search : IsSearch p s
+  pub there : at < length s.reached.visited
+  pub next : slice_get (log_of x p.logs) (cursor x (cursors_at s.reached at)) ≡ Some line
+  pub made : IsNext p.start s.reached at line.choice s.twin
+  pub came : shown ≡ observation_by p.start s.reached at line.choice
 
 -- a search went from old to new: each new path is to be followed, and each that was to be still is
 pub record Adds (p : Plan) (old new : Search) : Type 0 where

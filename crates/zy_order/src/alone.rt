@@ -2,12 +2,15 @@
 //! the other node.
 ghost use Rattle.std.specs.Prelude.{◌≡◌, IfOk, IfSome, OnOk, true};
 ghost use Rattle.zy_order.specs.Reaches as spec;
-ghost use Rattle.zy_order.specs.Reaches.{FollowsAlone, IsAt, Adds, MayBeAlone, TellsDid, TellsNothing};
+ghost use Rattle.zy_order.specs.Machines.{IsPlaced};
+ghost use Rattle.zy_order.specs.Reaches.{FollowsAlone, StandsAt, Adds, MayBeAlone, TellsDid, TellsNothing};
 
 use crate::cursors::Cursors;
 use crate::line::Met;
 use crate::logs::Logs;
-use crate::search::{Position, Search};
+use crate::placed_machine::PlacedMachine;
+use crate::plan::Plan;
+use crate::search::Search;
 use zy_isa::{Actor, Choice, Node};
 use zy_logs::LogLine;
 use zy_machine::Fault;
@@ -64,30 +67,47 @@ fn next_alone(logs: &Logs, cursors: Cursors, node: Node) -> Option<LogLine>
 }
 
 impl Search {
-    /// Follows the next line of a node at a position, if it may be followed alone and fits.
-    fn follow_of(&mut self, here: Position, node: Node) -> Result<Met, Fault>
-        requires { IsAt here self.old }
-        ensures adds { OnOk result (Adds here.entry.plan.now self.old self.new) }
-        ensures alone { let p = here.entry.plan.now in
-            IfOk result (λ met. met ≡ Met.Known → FollowsAlone p.start p.logs self.new.reached here.entry.at) }
+    /// Follows the next line of a node where the path at a place leads, if it may be followed alone and fits. If it does not, the
+    /// machine stays there.
+    fn follow_of(
+        &mut self,
+        plan: &Plan,
+        at: u32,
+        machine: &mut PlacedMachine,
+        node: Node,
+    ) -> Result<Met, Fault>
+        requires at { StandsAt plan.now self.old at machine.old.machine }
+        requires placed { IsPlaced plan.now.start self.old.reached.visited machine.old }
+        ensures adds { OnOk result (Adds plan.now self.old self.new) }
+        ensures alone { let p = plan.now in IfOk result (λ met. met ≡ Met.Known → FollowsAlone p.start p.logs self.new.reached at) }
+        ensures placed { OnOk result (IsPlaced plan.now.start self.new.reached.visited machine.new) }
+        ensures back { IfOk result (λ met. met ≡ Met.Unfit → StandsAt plan.now self.new at machine.new.machine) }
     {
-        let Some(line) = next_alone(&here.plan.logs, self.reached.cursors_at(here.at), node) else {
+        let Some(line) = next_alone(&plan.logs, self.reached.cursors_at(at), node) else {
             return Ok(Met::Unfit);
         };
-        self.meet_line(here, Actor::of(node), &line)
+        self.meet_in_place(plan, at, machine, Actor::of(node), &line)
     }
 
-    /// Follows the next line of A at a position, if it may be followed alone and fits, or else that of B.
-    pub(crate) fn follow_alone(&mut self, here: Position) -> Result<Met, Fault>
-        requires { IsAt here self.old }
-        ensures adds { OnOk result (Adds here.entry.plan.now self.old self.new) }
-        ensures alone { let p = here.entry.plan.now in
-            IfOk result (λ met. met ≡ Met.Known → FollowsAlone p.start p.logs self.new.reached here.entry.at) }
+    /// Follows the next line of A where the path at a place leads, if it may be followed alone and fits, or else that of B. If
+    /// neither does, the machine stays there.
+    pub(crate) fn follow_alone(
+        &mut self,
+        plan: &Plan,
+        at: u32,
+        machine: &mut PlacedMachine,
+    ) -> Result<Met, Fault>
+        requires at { StandsAt plan.now self.old at machine.old.machine }
+        requires placed { IsPlaced plan.now.start self.old.reached.visited machine.old }
+        ensures adds { OnOk result (Adds plan.now self.old self.new) }
+        ensures alone { let p = plan.now in IfOk result (λ met. met ≡ Met.Known → FollowsAlone p.start p.logs self.new.reached at) }
+        ensures placed { OnOk result (IsPlaced plan.now.start self.new.reached.visited machine.new) }
+        ensures back { IfOk result (λ met. met ≡ Met.Unfit → StandsAt plan.now self.new at machine.new.machine) }
     {
-        match self.follow_of(here, Node::A)? {
+        match self.follow_of(plan, at, machine, Node::A)? {
             Met::Known => Ok(Met::Known),
             Met::Spent => Ok(Met::Spent),
-            Met::Unfit => self.follow_of(here, Node::B),
+            Met::Unfit => self.follow_of(plan, at, machine, Node::B),
         }
     }
 }

@@ -80,18 +80,28 @@ impl Search {
         Ok(())
     }
 
-    /// Follows the steps that go on from a position: one line alone, if that may be, and else all of them. It answers no where
-    /// there is no room for what one of them leads to.
-    pub(crate) fn expand(&mut self, here: Position) -> Result<bool, Fault>
-        requires at { IsAt here self.old }
-        requires part { IsComplete here.plan.now (cursors_at self.old.reached here.at) here.machine.now.state → ⊥ }
-        ensures adds { OnOk result (Adds here.entry.plan.now self.old self.new) }
-        ensures followed { IfOk result (λ b. b ≡ true → IsFollowed here.entry.plan.now self.new.reached here.entry.at) }
+    /// Follows the steps that go on from where the path at a place leads: one line alone, if that may be, and else all of them. It
+    /// answers no where there is no room for what one of them leads to.
+    pub(crate) fn expand(
+        &mut self,
+        plan: &Plan,
+        at: u32,
+        machine: &mut PlacedMachine,
+    ) -> Result<bool, Fault>
+        requires at { StandsAt plan.now self.old at machine.old.machine }
+        requires placed { IsPlaced plan.now.start self.old.reached.visited machine.old }
+        requires part { IsComplete plan.now (cursors_at self.old.reached at) machine.old.machine.state → ⊥ }
+        ensures adds { OnOk result (Adds plan.now self.old self.new) }
+        ensures followed { IfOk result (λ b. b ≡ true → IsFollowed plan.now self.new.reached at) }
+        ensures placed { OnOk result (IsPlaced plan.now.start self.new.reached.visited machine.new) }
     {
-        match self.follow_alone(here)? {
+        match self.follow_alone(plan, at, machine)? {
             Met::Known => Ok(true),
             Met::Spent => Ok(false),
-            Met::Unfit => self.follow_each(here),
+            Met::Unfit => {
+                let machine = &machine.machine;
+                self.follow_each(Position { plan, at, machine })
+            }
         }
     }
 }

@@ -10,7 +10,7 @@ use crate::end::has_end;
 use crate::placed_machine::PlacedMachine;
 use crate::plan::Plan;
 use crate::reached::Reached;
-use crate::search::{Position, Search};
+use crate::search::Search;
 use zy_machine::{Fault, Machine};
 use zy_search::watch::Watch;
 
@@ -76,15 +76,10 @@ impl Search {
             };
             report_to(watch, &self.reached, turn, at);
             self.arrive(plan, at, machine)?;
-            let here = Position {
-                plan,
-                at,
-                machine: &machine.machine,
-            };
-            if is_complete(plan, self.reached.cursors_at(at), here.machine) {
+            if is_complete(plan, self.reached.cursors_at(at), &machine.machine) {
                 return Ok(Followed::Whole(at));
             }
-            if !self.expand(here)? {
+            if !self.expand(plan, at, machine)? {
                 return Ok(Followed::Spent);
             }
         }

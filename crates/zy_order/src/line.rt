@@ -1,13 +1,18 @@
 //! What one line leads to where a path leads.
 ghost use Rattle.std.specs.Prelude.{◌≡◌, IfOk, OnOk, Some, slice_get};
 ghost use Rattle.zy_order.specs.Ways.{log_of, cursor};
-ghost use Rattle.zy_order.specs.Reaches.{cursors_at, IsAt, IsMetBy, Adds};
+ghost use Rattle.zy_order.specs.Machines.{IsPlaced};
+ghost use Rattle.zy_order.specs.Reaches.{cursors_at, HasMade, IsAt, IsMetBy, StandsAt, Adds};
 
 use crate::attempt::attempt;
+use crate::placed_machine::PlacedMachine;
+use crate::plan::Plan;
 use crate::search::{Position, Search};
 use zy_isa::Actor;
 use zy_logs::LogLine;
 use zy_machine::Fault;
+use zy_search::branch::Branch;
+use zy_table::Observation;
 
 /// What came of a line.
 #[derive(Clone, Copy)]
@@ -21,8 +26,36 @@ pub(crate) enum Met {
 }
 
 impl Search {
-    /// Makes the choice of an actor's next line at a position, and keeps where it leads if the line agrees with what
-    /// its step shows.
+    /// Keeps where the twin is, which has made the choice of an actor's next line where the path at a place leads, if the line
+    /// agrees with what this step shows.
+    fn meet_shown(
+        &mut self,
+        plan: &Plan,
+        at: u32,
+        actor: Actor,
+        line: &LogLine,
+        shown: &Observation,
+    ) -> Result<Met, Fault>
+        requires { HasMade plan.now self.old at actor line.now shown.now }
+        ensures adds { OnOk result (Adds plan.now self.old self.new) }
+        ensures met { IfOk result (IsMetBy plan.now.start self.new.reached at actor line.now) }
+    {
+        if !line.agrees(shown) {
+            return Ok(Met::Unfit);
+        }
+        let branch = Branch {
+            from: at,
+            by: line.choice,
+        };
+        let cursors = self.reached.cursors_at(at).advanced(actor);
+        if !self.note(plan, branch, cursors)? {
+            return Ok(Met::Spent);
+        }
+        Ok(Met::Known)
+    }
+
+    /// Makes the choice of an actor's next line at a position, and keeps where it leads if the line agrees with what its step
+    /// shows.
     pub(crate) fn meet_line(
         &mut self,
         here: Position,
@@ -36,13 +69,31 @@ impl Search {
         ensures met { IfOk result (IsMetBy here.entry.plan.now.start self.new.reached here.entry.at actor line.now) }
     {
         let shown = attempt(here.plan.alloc, here.machine, &mut self.twin, line.choice)?;
-        if !line.agrees(&shown) {
-            return Ok(Met::Unfit);
+        self.meet_shown(here.plan, here.at, actor, line, &shown)
+    }
+
+    /// The same with the machine itself, which becomes the twin: no copy is made. Where the line does not fit, it goes back.
+    pub(crate) fn meet_in_place(
+        &mut self,
+        plan: &Plan,
+        at: u32,
+        machine: &mut PlacedMachine,
+        actor: Actor,
+        line: &LogLine,
+    ) -> Result<Met, Fault>
+        requires at { StandsAt plan.now self.old at machine.old.machine }
+        requires next { slice_get (log_of actor plan.now.logs) (cursor actor (cursors_at self.old.reached at)) ≡ Some line.now }
+        ensures adds { OnOk result (Adds plan.now self.old self.new) }
+        ensures met { IfOk result (IsMetBy plan.now.start self.new.reached at actor line.now) }
+        ensures placed { OnOk result (IsPlaced plan.now.start self.new.reached.visited machine.new) }
+        ensures back { IfOk result (λ met. met ≡ Met.Unfit → StandsAt plan.now self.new at machine.new.machine) }
+    {
+        machine.swap(&mut self.twin);
+        let shown = self.twin.observe(line.choice)?;
+        let met = self.meet_shown(plan, at, actor, line, &shown)?;
+        if matches!(met, Met::Unfit) {
+            self.arrive(plan, at, machine)?;
         }
-        let cursors = self.reached.cursors_at(here.at).advanced(actor);
-        if !self.note(here, line.choice, cursors)? {
-            return Ok(Met::Spent);
-        }
-        Ok(Met::Known)
+        Ok(met)
     }
 }

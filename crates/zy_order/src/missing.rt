@@ -7,6 +7,7 @@ use crate::attempt::attempt;
 use crate::search::{Position, Search};
 use zy_isa::Choice;
 use zy_machine::Fault;
+use zy_search::branch::Branch;
 
 impl Search {
     /// Makes a choice at a position, as that of a step that its actor's log lacks, if one may be missing there, and
@@ -28,7 +29,11 @@ impl Search {
         if self.twin.is_same(here.machine) {
             return Ok(true);
         }
-        self.note(here, choice, cursors.with_missing(actor))
+        let branch = Branch {
+            from: here.at,
+            by: choice,
+        };
+        self.note(here.plan, branch, cursors.with_missing(actor))
     }
 
     /// Tries each choice of which nothing may have been logged.

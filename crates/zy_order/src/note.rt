@@ -7,9 +7,8 @@ ghost use Rattle.zy_order.specs.Reaches.{state_by, IsKnown, IsSearch, Adds, Goes
 use crate::cursors::Cursors;
 use crate::digest::digest;
 use crate::plan::Plan;
-use crate::search::{Position, Search};
+use crate::search::Search;
 use crate::walk::go_to;
-use zy_isa::Choice;
 use zy_machine::{Fault, Machine};
 use zy_search::branch::Branch;
 
@@ -85,49 +84,47 @@ impl Search {
         Ok(Some(first))
     }
 
-    /// Keeps the path that goes on from a position by a choice, with the cursors where it leads, and the twin's
-    /// machine, which is where it leads.
+    /// Keeps the path of a branch, with the cursors where it leads, and the twin's machine, which is where it leads.
     fn keep(
         &mut self,
-        here: Position,
-        by: Choice,
+        plan: &Plan,
+        branch: Branch,
         cursors: Cursors,
         digest: u64,
     ) -> Result<(), Fault>
         requires room { length self.old.reached.visited + 1 < 2 ^ 32 }
-        requires leads { GoesOn self.old here by cursors }
-        ensures adds { OnOk result (Adds here.entry.plan.now self.old self.new) }
-        ensures known { let h = here.entry.plan.now.start in
-            OnOk result (IsKnown h self.new.reached cursors (state_by h self.old.reached here.entry.at by)) }
+        requires leads { GoesOn plan.now self.old branch cursors }
+        ensures adds { OnOk result (Adds plan.now self.old self.new) }
+        ensures known { let h = plan.now.start in
+            OnOk result (IsKnown h self.new.reached cursors (state_by h self.old.reached branch.from branch.by)) }
     {
         let place = self.reached.visited.len() as u32;
-        let branch = Branch { from: here.at, by };
         self.reached.push(branch, cursors, digest)?;
         self.recent
-            .put(here.plan.alloc, place, &mut self.twin, here.machine)?;
+            .put(plan.alloc, place, &mut self.twin, &plan.start)?;
         Ok(())
     }
 
-    /// Keeps the path that goes on from a position by a choice to the twin's state and these cursors, unless one that
-    /// leads there is known. It answers no where there is no room for it.
+    /// Keeps the path of a branch, which leads to the twin's state and these cursors, unless one that leads there is known.
+    /// It answers no where there is no room for it.
     pub(crate) fn note(
         &mut self,
-        here: Position,
-        by: Choice,
+        plan: &Plan,
+        branch: Branch,
         cursors: Cursors,
     ) -> Result<bool, Fault>
-        requires { GoesOn self.old here by cursors }
-        ensures adds { OnOk result (Adds here.entry.plan.now self.old self.new) }
-        ensures known { let h = here.entry.plan.now.start in IfOk result (λ b. b ≡ true
-            → IsKnown h self.new.reached cursors (state_by h self.old.reached here.entry.at by)) }
+        requires { GoesOn plan.now self.old branch cursors }
+        ensures adds { OnOk result (Adds plan.now self.old self.new) }
+        ensures known { let h = plan.now.start in IfOk result (λ b. b ≡ true
+            → IsKnown h self.new.reached cursors (state_by h self.old.reached branch.from branch.by)) }
     {
-        let Some(digest) = self.free_under(here.plan, cursors)? else {
+        let Some(digest) = self.free_under(plan, cursors)? else {
             return Ok(true);
         };
-        if here.plan.most as usize <= self.reached.visited.len() {
+        if plan.most as usize <= self.reached.visited.len() {
             return Ok(false);
         }
-        self.keep(here, by, cursors, digest)?;
+        self.keep(plan, branch, cursors, digest)?;
         Ok(true)
     }
 }

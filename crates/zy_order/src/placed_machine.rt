@@ -2,6 +2,7 @@
 ghost use Rattle.std.specs.Prelude.{◌≡◌, IfOk, OnOk, None, Some};
 
 use std::alloc::Global;
+use std::mem;
 use zy_machine::{Fault, Machine};
 
 /// A machine, and the place of the path that leads to its state; none where that is not known.
@@ -21,6 +22,15 @@ impl PlacedMachine {
             machine: machine.copy(alloc)?,
             at: None,
         })
+    }
+
+    /// Gives the machine for another one, of which no place is known.
+    pub(crate) fn swap(&mut self, other: &mut Machine)
+        ensures taken { self.new ≡ record { machine = other.old; at = None } }
+        ensures given { other.new ≡ self.old.machine }
+    {
+        mem::swap(&mut self.machine, other);
+        self.at = None;
     }
 
     /// Brings the machine to the state of another one, where the path at a place leads.

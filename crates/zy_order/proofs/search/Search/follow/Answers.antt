@@ -6,7 +6,6 @@ use Rattle.zy_order.specs.Machines.{AreRecentMachines, IsPlaced}
 use Rattle.zy_order.specs.Reaches.{IsTaken}
 use Rattle.std.proofs.Common.{Some}
 use Rattle.zy_order.proofs.LoopLemmas.{followed_next}
-use Rattle.zy_order.proofs.RecentLemmas.{placed_grown}
 use Rattle.zy_order.proofs.search.Search.follow.Goals as goal
 
 pub returns-in_default-clause-under_way : goal.returns-in_default-clause-under_way
@@ -43,5 +42,5 @@ loop-turn-preserved g c =
         search = adds.search;
         followed = followed_next p c.arrive.new.self c.expand.new.self c.in-Some.at taken adds (c.in_ok-expand.ensures.followed c.if-not-branch.false);
       };
-      machine = placed_grown p.start c.arrive.new.self.reached.visited c.expand.new.self.reached.visited c.arrive.new.machine adds.extends.paths there.placed;
+      machine = c.in_ok-expand.ensures.placed;
     }

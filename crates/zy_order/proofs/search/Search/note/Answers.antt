@@ -8,33 +8,33 @@ use Rattle.zy_order.proofs.search.Search.note.Goals as goal
 
 pub returns-in_default-clause-adds : goal.returns-in_default-clause-adds
 returns-in_default-clause-adds c =
-    adds_recent c.args.here.plan.now c.args.self.now c.free_under.new.self c.in_ok-digest.ensures.keeps c.requires.at.search
+    adds_recent c.args.plan.now c.args.self.now c.free_under.new.self c.in_ok-digest.ensures.keeps c.requires.search
 
 pub returns-in_default-clause-known : goal.returns-in_default-clause-known
 returns-in_default-clause-known c = λ _.
-    let h = c.args.here.plan.now.start in
+    let h = c.args.plan.now.start in
     let old = c.args.self.now.reached in
     let to = c.args.cursors in
-    subst (λ (r : Reached). IsKnown h r to (state_by h old c.args.here.at c.args.by)) (sym c.in_ok-digest.ensures.keeps.reached)
+    subst (λ (r : Reached). IsKnown h r to (state_by h old c.args.branch.from c.args.branch.by)) (sym c.in_ok-digest.ensures.keeps.reached)
     (subst (λ (s : State). IsKnown h old to s) c.requires.next.state (c.in_ok-digest.ensures.known c.in_default.is))
 
-pub returns-then-here-len-clause-adds : goal.returns-then-here-len-clause-adds
-returns-then-here-len-clause-adds c =
-    adds_recent c.args.here.plan.now c.args.self.now c.free_under.new.self c.in_ok-digest.ensures.keeps c.requires.at.search
+pub returns-then-plan-len-clause-adds : goal.returns-then-plan-len-clause-adds
+returns-then-plan-len-clause-adds c =
+    adds_recent c.args.plan.now c.args.self.now c.free_under.new.self c.in_ok-digest.ensures.keeps c.requires.search
 
 pub keep-requires-clause-leads : goal.keep-requires-clause-leads
 keep-requires-clause-leads c =
-    goes_on_recent c.args.self.now c.free_under.new.self c.args.here c.args.by c.args.cursors c.in_ok-digest.ensures.keeps c.requires
+    goes_on_recent c.args.plan.now c.args.self.now c.free_under.new.self c.args.branch c.args.cursors c.in_ok-digest.ensures.keeps c.requires
 
 pub returns-clause-adds : goal.returns-clause-adds
 returns-clause-adds c =
-    let p = c.args.here.plan.now in
+    let p = c.args.plan.now in
     let s = c.args.self.now in
     let t = c.free_under.new.self in
-    adds_on p s t c.keep.new.self (adds_recent p s t c.in_ok-digest.ensures.keeps c.requires.at.search) c.in_ok-keep.ensures.adds
+    adds_on p s t c.keep.new.self (adds_recent p s t c.in_ok-digest.ensures.keeps c.requires.search) c.in_ok-keep.ensures.adds
 
 pub returns-clause-known : goal.returns-clause-known
 returns-clause-known c = λ _.
-    let h = c.args.here.plan.now.start in
-    subst (λ (r : Reached). IsKnown h c.keep.new.self.reached c.args.cursors (state_by h r c.args.here.at c.args.by))
+    let h = c.args.plan.now.start in
+    subst (λ (r : Reached). IsKnown h c.keep.new.self.reached c.args.cursors (state_by h r c.args.branch.from c.args.branch.by))
     c.in_ok-digest.ensures.keeps.reached c.in_ok-keep.ensures.known

@@ -14,7 +14,7 @@ use Rattle.zy_order.specs.Ways.{with_missing, HasGap}
 use Rattle.zy_order.specs.Reaches.{cursors_at, state_by, IsKnown, IsTried, Adds}
 use Rattle.zy_order.proofs.LoopLemmas.{if_ok, missing_few, tried_by}
 use Rattle.zy_order.proofs.NeedLemmas.{need_missing}
-use Rattle.zy_order.proofs.PushLemmas.{adds_then, adds_twin, goes_on}
+use Rattle.zy_order.proofs.PushLemmas.{adds_then, adds_twin, is_next, search_twin}
 use Rattle.zy_order.proofs.WayLemmas.{way_room}
 use Rattle.zy_order.proofs.search.Search.try_one.Goals as goal
 
@@ -72,8 +72,12 @@ note-requires c =
     ∙ ap (with_missing (actor_of choice)) c.cursors_at-cursors.ensures) in
     let gap = missing_gap s.reached here.at choice l c.actor-actor.result c.cursors_at-cursors.result c.actor-actor.ensures
     c.cursors_at-cursors.ensures (c.has_gap.ensures.0 c.if-not-has_gap.false) in
-    goes_on s here choice c.with_missing.result c.attempt.new.twin c.requires.at e.scenario e.state e.longer
-    (inr (record { named = c.requires.named; gap = gap }, there))
+    record {
+      search = search_twin here.plan.now s c.attempt.new.twin c.requires.at.search (e.scenario ∙ c.requires.at.machine.scenario);
+      there = c.requires.at.there;
+      leads = inr (record { named = c.requires.named; gap = gap }, there);
+      next = is_next here.plan.now s here.at here.machine.now choice c.attempt.new.twin c.requires.at e.scenario e.state e.longer;
+    }
 
 pub returns-clause-adds : goal.returns-clause-adds
 returns-clause-adds c =
