@@ -1,4 +1,4 @@
--- A step of a run as an object of JSON, by itself or with the lines of the state that it changed.
+-- What a step of a run shows as an object of JSON, by itself or with the lines of the state that it changed.
 use Rattle.std.specs.Prelude.{ℕ, List, ◌++◌, codes, drop, Some}
 use Rattle.std.specs.Fmt.{decimal}
 use Rattle.std.specs.List.{flat_map}
@@ -6,7 +6,7 @@ use Rattle.std.specs.Option.{option_map}
 use Rattle.zy_isa.specs.declared.choice.Choice.{Choice}
 use Rattle.zy_isa.specs.declared.choice.Choice.TheVariants.{Start, Begin, Kill, Run, Take, Finish, Push}
 use Rattle.zy_isa.specs.Choices.{actor_of}
-use Rattle.zy_table.specs.declared.entry.Entry.{Entry}
+use Rattle.zy_table.specs.declared.observation.Observation.{Observation}
 use Rattle.zy_listing.specs.Texts.{kind_text, outcome_text}
 use Rattle.zy_json.specs.Steps.{Step}
 use Rattle.zy_json.specs.Plain.{plain_fields, plain_text}
@@ -22,26 +22,27 @@ action_text (Finish n) = codes "finish"
 action_text (Push n) = codes "push"
 
 -- all that a log can tell of a step
-abbrev pub told_of : Entry → Step
-told_of e = record {
-  actor = actor_of e.choice;
-  action = action_text e.choice;
-  came = Some (outcome_text e.outcome);
-  sent = option_map kind_text e.sent;
+abbrev pub told_of : Observation → Step
+told_of o = record {
+  actor = actor_of o.entry.choice;
+  action = action_text o.entry.choice;
+  came = Some (outcome_text o.entry.outcome);
+  value = o.value;
+  sent = option_map kind_text o.entry.sent;
 }
 
 -- the object of a step
-abbrev pub object_text : Entry → List ℕ
-object_text e = plain_text (told_of e)
+abbrev pub object_text : Observation → List ℕ
+object_text o = plain_text (told_of o)
 
 -- a line in quotation marks, behind a comma
 abbrev pub quoted : List ℕ → List ℕ
 quoted line = codes ",\"" ++ (line ++ codes "\"")
 
 -- the object of a step with one field more, the list of these lines: each is behind a comma, and the first comma is left out
-abbrev pub listed_text : Entry → List ℕ → List ℕ
-listed_text e lines = plain_fields (told_of e) ++ (codes ",\"changed\":[" ++ (drop 1 lines ++ codes "]}"))
+abbrev pub listed_text : Observation → List ℕ → List ℕ
+listed_text o lines = plain_fields (told_of o) ++ (codes ",\"changed\":[" ++ (drop 1 lines ++ codes "]}"))
 
 -- the object of a step with lines of the state, none of which has a sign that JSON escapes
-abbrev pub traced_text : Entry → List (List ℕ) → List ℕ
-traced_text e lines = listed_text e (flat_map quoted lines)
+abbrev pub traced_text : Observation → List (List ℕ) → List ℕ
+traced_text o lines = listed_text o (flat_map quoted lines)

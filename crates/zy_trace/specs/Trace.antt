@@ -6,24 +6,26 @@ use Rattle.zy_text.specs.Canon.{canon}
 use Rattle.zy_isa.specs.Scenario.{Scenario}
 use Rattle.zy_io.specs.Writing.{line_of}
 use Rattle.zy_table.specs.State.{State}
-use Rattle.zy_table.specs.declared.entry.Entry.{Entry}
-use Rattle.zy_table.specs.Play.{play, opening, step, entry_of}
+use Rattle.zy_table.specs.declared.observation.Observation.{Observation}
+use Rattle.zy_table.specs.Observations.{observation_at, observations}
+use Rattle.zy_table.specs.Play.{play, opening, step}
 use Rattle.zy_listing.specs.Texts.{step_text, serial_text}
 use Rattle.zy_listing.specs.Listing.{final_texts}
 use Rattle.zy_serial.specs.SameMaps.{is_serial}
 use Rattle.zy_trace.specs.declared.form.StepForm.{StepForm}
-use Rattle.zy_trace.specs.declared.form.StepForm.TheVariants.{Lines, Object}
-use Rattle.zy_trace.specs.Objects.{traced_text}
+use Rattle.zy_trace.specs.declared.form.StepForm.TheVariants.{Lines, Object, TracedObject}
+use Rattle.zy_trace.specs.Objects.{object_text, traced_text}
 use Rattle.zy_trace.specs.Subjects.{changed, inset, state_lines}
 
--- step i with the lines that it changed: its line and below it those, or one object
-abbrev pub form_lines : StepForm → ℕ → Entry → List (List ℕ) → List (List ℕ)
-form_lines Lines i e lines = step_text i e ∷ map inset lines
-form_lines Object i e lines = traced_text e lines ∷ []
+-- what step i shows, and the lines that it changed: its line and below it those, one object without them, or one with them
+abbrev pub form_lines : StepForm → ℕ → Observation → List (List ℕ) → List (List ℕ)
+form_lines Lines i o lines = step_text i o.entry ∷ map inset lines
+form_lines Object i o lines = object_text o ∷ []
+form_lines TracedObject i o lines = traced_text o lines ∷ []
 
 -- step i, a choice made in a state, and what it changed
 abbrev pub step_lines : StepForm → Scenario → ℕ → State → Choice → List (List ℕ)
-step_lines form sc i s c = let x = step sc c s in form_lines form i (entry_of c x) (changed s x.after)
+step_lines form sc i s c = form_lines form i (observation_at sc s c) (changed s (step sc c s).after)
 
 -- the lines of the step of each choice, from step i on
 abbrev pub steps_lines : StepForm → Scenario → ℕ → State → List Choice → List (List ℕ)
@@ -48,6 +50,10 @@ trace_from sc t = canon sc ++ flat_map line_of (trace_lines sc t (is_serial sc t
 abbrev pub trace : Scenario → List ℕ
 trace sc = trace_from sc (play sc (opening sc) sc.choices)
 
+-- the steps of a run, each as one object
+abbrev pub step_objects : Scenario → List ℕ
+step_objects sc = flat_map line_of (map object_text (observations sc (opening sc) sc.choices))
+
 -- the steps of the trace alone, each as one object
 abbrev pub traced_objects : Scenario → List ℕ
-traced_objects sc = flat_map line_of (steps_lines Object sc 1 (opening sc) sc.choices)
+traced_objects sc = flat_map line_of (steps_lines TracedObject sc 1 (opening sc) sc.choices)

@@ -1,10 +1,12 @@
-//! How the steps of a trace are written.
+//! How the steps of a run are written.
 
-/// How a step of a trace is written, with the lines of the state that it changed.
+/// How a step of a run is written.
 #[derive(Clone, Copy)]
 pub enum StepForm {
-    /// Its line, and those below it behind two spaces.
+    /// Its line, and below it, behind two spaces, the lines of the state that it changed.
     Lines,
     /// One object of JSON.
     Object,
+    /// One object of JSON, with the lines of the state that it changed.
+    TracedObject,
 }

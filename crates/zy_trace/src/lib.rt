@@ -1,10 +1,10 @@
-//! The trace of a run: each step, and below it the lines of the state that it changed.
+//! The trace of a run: each step, and below it the lines of the state that it changed; and its steps alone, as objects of JSON.
 #![tactic(auto)]
 
 pub mod form;
 mod kept;
 pub mod laws;
-pub mod objects;
+mod objects;
 mod since;
 mod step;
 pub mod subject;

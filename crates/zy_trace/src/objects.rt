@@ -1,4 +1,4 @@
-//! A step of a run as an object of JSON, which is a line of a log.
+//! What a step of a run shows as an object of JSON, which is a line of a log.
 ghost use Rattle.std.specs.Prelude.{◌≡◌, drop};
 ghost use Rattle.zy_json.specs.Plain.{plain_fields};
 ghost use Rattle.zy_trace.specs.Objects.{action_text, listed_text, object_text, told_of};
@@ -8,7 +8,7 @@ use zy_io::{Decimal, Line, LineBuffer, joined};
 use zy_isa::Choice;
 use zy_json::{PlainFields, PlainStep};
 use zy_listing::{KindText, OutcomeText};
-use zy_table::Entry;
+use zy_table::Observation;
 
 /// What is done of a choice, without who does it.
 #[derive(Clone, Copy)]
@@ -32,22 +32,19 @@ impl Line for ActionText {
 
 /// The fields of a step's object: all that a log can tell of the step.
 #[derive(Clone, Copy)]
-struct StepFields<'a>(&'a Entry);
+struct StepFields<'a>(&'a Observation);
 
 impl Line for StepFields<'_> {
     ghost text = { λ s. plain_fields (told_of s.0.now) };
 
     fn append(&self, line: &mut LineBuffer) -> Result<(), AllocError> {
-        let Entry {
-            choice,
-            outcome,
-            sent,
-        } = *self.0;
+        let Observation { entry, value } = *self.0;
         let object = PlainStep {
-            actor: choice.actor(),
-            action: ActionText(choice),
-            came: Some(OutcomeText(outcome)),
-            sent: sent.map(KindText),
+            actor: entry.choice.actor(),
+            action: ActionText(entry.choice),
+            came: Some(OutcomeText(entry.outcome)),
+            value,
+            sent: entry.sent.map(KindText),
         };
         PlainFields(object).append(line)
     }
@@ -55,7 +52,7 @@ impl Line for StepFields<'_> {
 
 /// A step as an object, with all that a log can tell of it.
 #[derive(Clone, Copy)]
-pub struct StepObject<'a>(pub &'a Entry);
+pub(crate) struct StepObject<'a>(pub &'a Observation);
 
 impl Line for StepObject<'_> {
     ghost text = { λ s. object_text s.0.now };
@@ -89,18 +86,18 @@ fn behind_first(bytes: &[u8]) -> &[u8]
 
 /// A step as an object, with lines of the state in one field more.
 #[derive(Clone, Copy)]
-pub(crate) struct TracedObject<'a> {
-    pub entry: &'a Entry,
+pub(crate) struct ListedObject<'a> {
+    pub step: &'a Observation,
     /// The lines in quotation marks, each of them behind a comma.
     pub lines: &'a [u8],
 }
 
-impl Line for TracedObject<'_> {
-    ghost text = { λ s. listed_text s.entry.now s.lines.now };
+impl Line for ListedObject<'_> {
+    ghost text = { λ s. listed_text s.step.now s.lines.now };
 
     fn append(&self, line: &mut LineBuffer) -> Result<(), AllocError> {
         joined!(
-            StepFields(self.entry),
+            StepFields(self.step),
             ",\"changed\":[",
             Bytes(behind_first(self.lines)),
             "]}",

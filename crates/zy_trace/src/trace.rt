@@ -6,7 +6,7 @@ ghost use Rattle.zy_table.specs.Play.{entries, opening, play};
 ghost use Rattle.zy_trace.specs.Subjects.{inset, state_lines};
 ghost use Rattle.zy_text.specs.Canon.{canon};
 ghost use Rattle.zy_trace.specs.declared.form.StepForm.TheVariants.{Lines};
-ghost use Rattle.zy_trace.specs.Trace.{opening_lines, steps_lines, traced_objects};
+ghost use Rattle.zy_trace.specs.Trace.{opening_lines, step_objects, steps_lines, traced_objects};
 ghost use Rattle.zy_trace.specs.Trace as spec;
 ghost use Rattle.zy_trace.specs.Steps.{end_text, next_lines, ran, with_next};
 
@@ -223,9 +223,56 @@ pub fn write_trace<K: Sink>(
     }
 }
 
+/// Makes the choices of a scenario, writes each step in this form, and returns the machine that has made them.
+fn write_each<K: Sink>(
+    form: StepForm,
+    alloc: Global,
+    scenario: Scenario,
+    sink: &mut K,
+) -> Result<Machine, TextFault>
+    requires { (K.sent sink.old).failures < u64.MAX }
+    ensures wrote { Wrote (K.sent sink.old) (K.sent sink.new) result
+        (flat_map line_of (steps_lines form scenario 1 (opening scenario) scenario.choices)) }
+    ensures machine { IfOk result (λ m. m ≡ record {
+      scenario = scenario;
+      state = play scenario (opening scenario) scenario.choices;
+      entries = entries scenario (opening scenario) scenario.choices;
+    }) }
+{
+    let mut machine = Machine::open(alloc, scenario)?;
+    let mut line = LineBuffer::new(alloc);
+    let written = write_all_steps(form, alloc, &mut machine, sink, &mut line);
+    drop(line);
+    match written {
+        Ok(()) => Ok(machine),
+        Err(fault) => {
+            machine.discard();
+            Err(fault)
+        }
+    }
+}
+
+/// Makes the choices of a scenario, writes what each step shows as one object, and returns the machine that has made them.
+pub fn write_objects<K: Sink>(
+    alloc: Global,
+    scenario: Scenario,
+    sink: &mut K,
+) -> Result<Machine, TextFault>
+    requires { (K.sent sink.old).failures < u64.MAX }
+    ensures wrote { Wrote (K.sent sink.old) (K.sent sink.new) result
+        (step_objects scenario) }
+    ensures machine { IfOk result (λ m. m ≡ record {
+      scenario = scenario;
+      state = play scenario (opening scenario) scenario.choices;
+      entries = entries scenario (opening scenario) scenario.choices;
+    }) }
+{
+    write_each(StepForm::Object, alloc, scenario, sink)
+}
+
 /// Makes the choices of a scenario, writes each step as one object with the lines that it changed, and returns the machine that has
 /// made them.
-pub fn write_objects<K: Sink>(
+pub fn write_traced_objects<K: Sink>(
     alloc: Global,
     scenario: Scenario,
     sink: &mut K,
@@ -239,15 +286,5 @@ pub fn write_objects<K: Sink>(
       entries = entries scenario (opening scenario) scenario.choices;
     }) }
 {
-    let mut machine = Machine::open(alloc, scenario)?;
-    let mut line = LineBuffer::new(alloc);
-    let written = write_all_steps(StepForm::Object, alloc, &mut machine, sink, &mut line);
-    drop(line);
-    match written {
-        Ok(()) => Ok(machine),
-        Err(fault) => {
-            machine.discard();
-            Err(fault)
-        }
-    }
+    write_each(StepForm::TracedObject, alloc, scenario, sink)
 }

@@ -12,5 +12,5 @@ returns c =
     let t = c.args.now.now.state in
     c.in_ok-append_since.ensures
     ∙ ap₂ (λ l m. l ++ m)
-    (c.in_ok-append_step.ensures ∙ ap₂ (λ l n. l ++ line_of (step_text n c.args.entry.now)) c.clear.ensures c.len.ensures.value)
+    (c.in_ok-append_step.ensures ∙ ap₂ (λ l n. l ++ line_of (step_text n c.args.step.now.entry)) c.clear.ensures c.len.ensures.value)
     (lines_each inset_line (lines_of_subject false s t) (subjects t) ∙ inset_lines (changed s t))
