@@ -51,6 +51,7 @@ def plain(fields):
 # Objects that are damaged, and what is said of each.
 FIELD = 'the field "%s" %s'
 SIGNS = 'has no line feed, no !, no ; and no >'
+NO_NUMBER = 'is a whole number from 0 to 4294967295, as 7; leave it out where there is nothing to tell'
 NO_OBJECT = 'a line is one object, as {"actor":"A","do":"run 0","came":"did"}'
 DAMAGED = (
     ('A run 0 -> did', 'the line is no JSON (byte 0)'),
@@ -72,6 +73,13 @@ DAMAGED = (
     ('{"actor":"A","do":["run",0]}', FIELD % ('do', 'is no string; leave it out where there is nothing to tell')),
     ('{"actor":"A","do":"run 0","came":null}', FIELD % ('came', 'is no string; leave it out where there is nothing to tell')),
     ('{"actor":"A","do":"run 0","sent":false}', FIELD % ('sent', 'is no string; leave it out where there is nothing to tell')),
+    ('{"actor":"A","do":"run 0","came":"did","value":7,"value":7}', FIELD % ('value', 'comes twice')),
+    *(('{"actor":"A","do":"run 0","came":"did","value":%s}' % value, FIELD % ('value', NO_NUMBER))
+      for value in ('"7"', 'null', '[7]', 'true', '-7', '-0', '7.0', '7e0', '4294967296', '12345678901')),
+    ('{"actor":"A","do":"run 0","came":"did","value":07}', None),
+    ('{"actor":"A","do":"run 0","came":"waits 0","value":"7"}', FIELD % ('value', NO_NUMBER)),
+    *(('{"actor":"A","do":"run 0",%s"value":7}' % came, FIELD % ('value', 'stands beside "came":"did" alone'))
+      for came in ('', '"came":"?",', '"came":"did ",', '"came":"did 7",', '"came":"waits 0",')),
     ('{"actor":"a","do":"run 0"}', 'the field "actor" is "C", "A" or "B"'),
     ('{"actor":"A","do":"run 0 -> did"}', FIELD % ('do', SIGNS)),
     ('{"actor":"A","do":"run 0","came":"did ! pull"}', FIELD % ('came', SIGNS)),
@@ -82,6 +90,9 @@ DAMAGED = (
 # Objects, and the lines that they tell: escapes, surrogates, spaces, other fields, and such that nest as deep as may be.
 TOLD = (
     ('{"actor":"A","do":"run 0","came":"did"}', 'A run 0 -> did'),
+    ('{"actor":"A","do":"run 0","came":"did","value":7}', 'A run 0 -> did 7'),
+    ('{"value": 4294967295 ,"c\\u0061me":"\\u0064id","actor":"A","do":"run 0","sent":"pull"}', 'A run 0 -> did 4294967295 ! pull'),
+    ('{"actor":"A","do":"run 0","came":"did 7"}', 'A run 0 -> did 7'),
     (' {\t"sent" : "pull","came":"pulls 0" ,"do":"run 0","actor":"B"}\r', 'B run 0 -> pulls 0 ! pull'),
     ('{"\\u0061ctor":"\\u0043","do":"st\\u0061rt"}', 'C start'),
     ('{"time":[-1e400,{"actor":null}],"time":2,"actor":"A","do":"take"}', 'A take'),
