@@ -54,6 +54,10 @@ trace sc = trace_from sc (play sc (opening sc) sc.choices)
 abbrev pub step_objects : Scenario → List ℕ
 step_objects sc = flat_map line_of (map object_text (observations sc (opening sc) sc.choices))
 
+-- the steps of a run in this form
+abbrev pub steps_text : StepForm → Scenario → List ℕ
+steps_text form sc = flat_map line_of (steps_lines form sc 1 (opening sc) sc.choices)
+
 -- the steps of the trace alone, each as one object
 abbrev pub traced_objects : Scenario → List ℕ
-traced_objects sc = flat_map line_of (steps_lines TracedObject sc 1 (opening sc) sc.choices)
+traced_objects = steps_text TracedObject

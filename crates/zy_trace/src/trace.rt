@@ -1,12 +1,13 @@
 //! The whole trace, and its steps alone as objects of JSON.
-ghost use Rattle.std.specs.Prelude.{◌≡◌, ◌<◌, ◌++◌, [], IfOk, OnOk, length, map};
+ghost use Rattle.std.specs.Prelude.{◌≡◌, ◌<◌, ◌++◌, [], OnOk, length, map};
 ghost use Rattle.std.specs.List.{flat_map};
 ghost use Rattle.zy_io.specs.Writing.{line_of, Wrote};
-ghost use Rattle.zy_table.specs.Play.{entries, opening, play};
+ghost use Rattle.zy_listing.specs.Run.{WroteRun};
+ghost use Rattle.zy_table.specs.Play.{opening};
 ghost use Rattle.zy_trace.specs.Subjects.{inset, state_lines};
 ghost use Rattle.zy_text.specs.Canon.{canon};
 ghost use Rattle.zy_trace.specs.declared.form.StepForm.TheVariants.{Lines};
-ghost use Rattle.zy_trace.specs.Trace.{opening_lines, step_objects, steps_lines, traced_objects};
+ghost use Rattle.zy_trace.specs.Trace.{opening_lines, step_objects, steps_text, traced_objects};
 ghost use Rattle.zy_trace.specs.Trace as spec;
 ghost use Rattle.zy_trace.specs.Steps.{end_text, next_lines, ran, with_next};
 
@@ -118,7 +119,7 @@ fn write_steps<K: Sink>(
     requires opened { now.old ≡ ran now.old.scenario [] }
     requires alike { before.old ≡ now.old }
     ensures wrote { Wrote (K.sent sink.old) (K.sent sink.new) result
-        (flat_map line_of (steps_lines form now.old.scenario 1 (opening now.old.scenario) now.old.scenario.choices)) }
+        (steps_text form now.old.scenario) }
     ensures made { OnOk result (now.new ≡ ran now.old.scenario now.old.scenario.choices) }
 {
     for _ in 0..now.scenario().choices().len() {
@@ -139,8 +140,7 @@ fn write_all_steps<K: Sink>(
     requires failures { (K.sent sink.old).failures < u64.MAX }
     requires opened { machine.old ≡ ran machine.old.scenario [] }
     ensures wrote { Wrote (K.sent sink.old) (K.sent sink.new) result
-        (flat_map line_of (steps_lines form machine.old.scenario 1
-        (opening machine.old.scenario) machine.old.scenario.choices)) }
+        (steps_text form machine.old.scenario) }
     ensures made { OnOk result (machine.new ≡ ran machine.old.scenario machine.old.scenario.choices) }
 {
     let mut before = machine.reopen(alloc)?;
@@ -176,9 +176,7 @@ fn write_rest<K: Sink>(
     requires failures { (K.sent sink.old).failures < u64.MAX }
     requires opened { machine.old ≡ ran machine.old.scenario [] }
     ensures wrote { Wrote (K.sent sink.old) (K.sent sink.new) result
-        (flat_map line_of (steps_lines Lines machine.old.scenario 1
-        (opening machine.old.scenario) machine.old.scenario.choices)
-        ++ end_text (ran machine.old.scenario machine.old.scenario.choices)) }
+        (steps_text Lines machine.old.scenario ++ end_text (ran machine.old.scenario machine.old.scenario.choices)) }
     ensures made { OnOk result (machine.new ≡ ran machine.old.scenario machine.old.scenario.choices) }
 {
     write_all_steps(StepForm::Lines, alloc, machine, sink, line)?;
@@ -205,13 +203,7 @@ pub fn write_trace<K: Sink>(
     sink: &mut K,
 ) -> Result<Machine, TextFault>
     requires { (K.sent sink.old).failures < u64.MAX }
-    ensures wrote { Wrote (K.sent sink.old) (K.sent sink.new) result
-        (spec.trace scenario) }
-    ensures machine { IfOk result (λ m. m ≡ record {
-      scenario = scenario;
-      state = play scenario (opening scenario) scenario.choices;
-      entries = entries scenario (opening scenario) scenario.choices;
-    }) }
+    ensures { WroteRun spec.trace scenario (K.sent sink.old) (K.sent sink.new) result }
 {
     let mut machine = Machine::open(alloc, scenario)?;
     match write_run(alloc, &mut machine, sink) {
@@ -231,13 +223,7 @@ fn write_each<K: Sink>(
     sink: &mut K,
 ) -> Result<Machine, TextFault>
     requires { (K.sent sink.old).failures < u64.MAX }
-    ensures wrote { Wrote (K.sent sink.old) (K.sent sink.new) result
-        (flat_map line_of (steps_lines form scenario 1 (opening scenario) scenario.choices)) }
-    ensures machine { IfOk result (λ m. m ≡ record {
-      scenario = scenario;
-      state = play scenario (opening scenario) scenario.choices;
-      entries = entries scenario (opening scenario) scenario.choices;
-    }) }
+    ensures { WroteRun (steps_text form) scenario (K.sent sink.old) (K.sent sink.new) result }
 {
     let mut machine = Machine::open(alloc, scenario)?;
     let mut line = LineBuffer::new(alloc);
@@ -259,13 +245,7 @@ pub fn write_objects<K: Sink>(
     sink: &mut K,
 ) -> Result<Machine, TextFault>
     requires { (K.sent sink.old).failures < u64.MAX }
-    ensures wrote { Wrote (K.sent sink.old) (K.sent sink.new) result
-        (step_objects scenario) }
-    ensures machine { IfOk result (λ m. m ≡ record {
-      scenario = scenario;
-      state = play scenario (opening scenario) scenario.choices;
-      entries = entries scenario (opening scenario) scenario.choices;
-    }) }
+    ensures { WroteRun step_objects scenario (K.sent sink.old) (K.sent sink.new) result }
 {
     write_each(StepForm::Object, alloc, scenario, sink)
 }
@@ -278,13 +258,7 @@ pub fn write_traced_objects<K: Sink>(
     sink: &mut K,
 ) -> Result<Machine, TextFault>
     requires { (K.sent sink.old).failures < u64.MAX }
-    ensures wrote { Wrote (K.sent sink.old) (K.sent sink.new) result
-        (traced_objects scenario) }
-    ensures machine { IfOk result (λ m. m ≡ record {
-      scenario = scenario;
-      state = play scenario (opening scenario) scenario.choices;
-      entries = entries scenario (opening scenario) scenario.choices;
-    }) }
+    ensures { WroteRun traced_objects scenario (K.sent sink.old) (K.sent sink.new) result }
 {
     write_each(StepForm::TracedObject, alloc, scenario, sink)
 }
