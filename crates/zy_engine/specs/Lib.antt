@@ -8,5 +8,4 @@ pub mod Checks
 pub mod Debugs
 pub mod Searching
 pub mod Finding
-pub mod StepObjects
 pub mod Ending

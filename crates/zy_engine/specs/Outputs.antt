@@ -4,12 +4,11 @@ use Rattle.zy_isa.specs.Scenario.{Scenario}
 use Rattle.zy_text.specs.Canon.{canon}
 use Rattle.zy_image.specs.Image.{image_of}
 use Rattle.zy_listing.specs.Run.{listing_run}
-use Rattle.zy_trace.specs.Trace.{trace, traced_objects}
+use Rattle.zy_trace.specs.Trace.{step_objects, trace, traced_objects}
 use Rattle.zy_engine.specs.declared.output.SourceFormat.{SourceFormat}
 use Rattle.zy_engine.specs.declared.output.SourceFormat.TheVariants.{Image, Text}
 use Rattle.zy_engine.specs.declared.output.RunFormat.{RunFormat}
 use Rattle.zy_engine.specs.declared.output.RunFormat.TheVariants.{Listing, Objects, Trace, TracedObjects}
-use Rattle.zy_engine.specs.StepObjects.{objects_text}
 
 -- the bytes of an output
 abbrev pub output_of : SourceFormat → Scenario → List ℕ
@@ -20,5 +19,5 @@ output_of Text = canon
 abbrev pub shown_of : RunFormat → Scenario → List ℕ
 shown_of Listing = listing_run
 shown_of Trace = trace
-shown_of Objects = objects_text
+shown_of Objects = step_objects
 shown_of TracedObjects = traced_objects

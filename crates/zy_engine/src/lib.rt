@@ -13,7 +13,6 @@ pub mod laws;
 pub mod output;
 mod same;
 pub mod searching;
-mod step_objects;
 pub mod threading;
 pub mod wording;
 

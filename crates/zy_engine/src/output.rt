@@ -4,7 +4,6 @@ ghost use Rattle.zy_listing.specs.Run.{WroteOutput, WroteRun};
 ghost use Rattle.zy_engine.specs.Outputs.{output_of, shown_of};
 ghost use Rattle.zy_engine.specs.declared.output.SourceFormat.TheVariants.{Image};
 
-use crate::step_objects::write_objects;
 use std::alloc::Global;
 use zy_disasm::text::write_text;
 use zy_image::save::save;
@@ -41,8 +40,8 @@ impl RunFormat {
         match self {
             RunFormat::Listing => write_run(alloc, scenario, sink),
             RunFormat::Trace => trace::write_trace(alloc, scenario, sink),
-            RunFormat::Objects => write_objects(alloc, scenario, sink),
-            RunFormat::TracedObjects => trace::write_objects(alloc, scenario, sink),
+            RunFormat::Objects => trace::write_objects(alloc, scenario, sink),
+            RunFormat::TracedObjects => trace::write_traced_objects(alloc, scenario, sink),
         }
     }
 }
