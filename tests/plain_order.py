@@ -15,8 +15,12 @@ from plain_goals import is_over
 from plain_search import considered
 from plain_table import step
 
-# What a line tells: a choice, the words of its outcome, of which the last ones or all may be left out, and the kind of the message, or None.
-Line = namedtuple('Line', 'choice told sent')
+# What a line tells: a choice, the words of its outcome, of which the last ones or all may be left out, the value of its instruction, or None, and the kind of
+# the message, or None.
+Line = namedtuple('Line', 'choice told value sent')
+
+# What a step shows: the words of its outcome, the value of its instruction, or None, and the kind of the message that it sent, or None.
+Shown = namedtuple('Shown', 'outcome value sent')
 
 # What comes of it: whether there is an order, the places that are reached, and those that are furthest.
 Answer = namedtuple('Answer', 'verdict places furthest')
@@ -94,21 +98,35 @@ def sent_by(before, after):
     return next((new[-1][0] for old, new in zip(before.links, after.links) if len(new) > len(old)), None)
 
 
+def value_of(instruction, txn):
+    """The value of an instruction that a transaction has done: what its register holds now, or what it wrote. Of `beq` None."""
+    word, first, *_ = instruction
+    held = txn.regs[int(first[1:])]
+    return dict(txn.private)[held] if word in ('write', 'insert') else None if word == 'beq' else held
+
+
 def came_of(scenario, state, choice):
-    """The words of a choice's outcome, the kind of the message that was sent, and the state after it."""
+    """What the step of a choice shows, and the state after it."""
     outcome, after = step(scenario, state, choice)
-    return outcome.split(), sent_by(state, after), after
+    t = choice[2]
+    value = value_of(scenario.programs[t][state.txns[t].pc], after.txns[t]) if outcome == 'did' else None
+    return Shown(outcome.split(), value, sent_by(state, after)), after
 
 
-def agrees(line, outcome, sent):
-    """Whether what came is what a line tells."""
-    return outcome[:len(line.told)] == line.told and line.sent in (None, sent)
+def agrees(line, shown):
+    """Whether what a step shows is what a line tells."""
+    return shown.outcome[:len(line.told)] == line.told and line.value in (None, shown.value) and line.sent in (None, shown.sent)
+
+
+def told_by(line, shown):
+    """What a step shows, in the words of a log: the value where the line tells one."""
+    return shown.outcome + [str(shown.value)] * (None not in (line.value, shown.value)) + (['!', shown.sent] if shown.sent else [])
 
 
 def state_after(scenario, state, line):
     """The state after a line's choice, or None where it does not fit."""
-    outcome, sent, after = came_of(scenario, state, line.choice)
-    return after if agrees(line, outcome, sent) else None
+    shown, after = came_of(scenario, state, line.choice)
+    return after if agrees(line, shown) else None
 
 
 def put(numbers, x, number):
@@ -186,7 +204,7 @@ def settled_verdict(all_logs, places):
 
 def fillings(scenario, actor, gap):
     """The lines that a gap of an actor may stand for: at most `gap` lines of steps of which nothing was logged."""
-    lines = [Line(choice, [], None) for choice in considered(scenario, True) if choice[0] == actor]
+    lines = [Line(choice, [], None, None) for choice in considered(scenario, True) if choice[0] == actor]
     return [filling for count in range(gap + 1) for filling in product(lines, repeat=count)]
 
 

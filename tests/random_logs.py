@@ -24,6 +24,9 @@ OUTCOMES = ('started', 'badmode', 'began A', 'began B', 'idle', 'elsewhere', 'no
             'got pull 0', 'got page 0', 'got page 1', 'got finish', 'got done', 'stray', 'finishing', 'active 0', 'pushed 0', 'pushed 1', 'nopush')
 KINDS = ('wire', 'ready', 'dual', 'pull', 'page', 'finish', 'done')
 
+# The largest value.
+LAST_VALUE = 2 ** 32 - 1
+
 
 def random_logs(chance, changes, gaps):
     """Logs of a random run with a number of changes and of gaps, for which there are not too many places."""
@@ -47,14 +50,44 @@ def random_logs(chance, changes, gaps):
         return Logs(scenario._replace(choices=own), start, mixed_lines, gap, *written(chance, scenario, head, mixed_lines)), answer
 
 
+def wrong_values(chance, count):
+    """Right logs of a scenario of version 1, in which each line tells all of a step that changed something, but for the number of a commit; and a number of
+    logs of which one line tells a wrong value: each with that line and the word of its instruction. It is not the first of its transaction."""
+    while True:
+        scenario = read(text := random_text(chance))
+        steps, _ = random_walk(chance, scenario, opening(scenario), False, 60)
+        lines, valued = lines_in_full(scenario, steps) if scenario.version == 1 else ([], [])
+        if len(valued) >= count:
+            break
+    lines = mixed(chance, split(lines))
+    logs_of = lambda lines: Logs(scenario, opening(scenario), lines, DEFAULT_GAP, *written(chance, scenario, text, lines))
+    wrong = [(line, line._replace(value=another_value(chance, line.value)), word) for line, word in chance.sample(valued, count)]
+    return logs_of(lines), [(logs_of([other if each is line else each for each in lines]), other, word) for line, other, word in wrong]
+
+
+def lines_in_full(scenario, steps):
+    """The lines of the steps of a run that changed something, and those that tell a value behind another line of their transaction, each with the word of
+    its instruction."""
+    lines, valued, state, ran = [], [], opening(scenario), set()
+    for choice in steps:
+        shown, after = came_of(scenario, state, choice)
+        if after != state:
+            lines.append(Line(choice, shown.outcome[:1] if shown.outcome[0] == 'committed' else shown.outcome, shown.value, shown.sent))
+            if shown.value is not None and choice in ran:
+                valued.append((lines[-1], scenario.programs[choice[2]][state.txns[choice[2]].pc][0]))
+            ran.add(choice)
+        state = after
+    return lines, valued
+
+
 def logged(chance, scenario, state, steps):
     """The lines of a run."""
-    outcomes, numbers, messages = (chance.choice(SHARES) for _ in range(3))
+    outcomes, numbers, values, messages = (chance.choice(SHARES) for _ in range(4))
     lines = []
     for choice in steps:
-        outcome, sent, state = came_of(scenario, state, choice)
+        (outcome, value, sent), state = came_of(scenario, state, choice)
         told = [] if chance.random() < outcomes else shortened(chance, outcome) if chance.random() < numbers else outcome
-        lines.append(Line(choice, told, None if chance.random() < messages else sent))
+        lines.append(Line(choice, told, None if not told or chance.random() < values else value, None if chance.random() < messages else sent))
     return lines
 
 
@@ -73,7 +106,7 @@ def with_gap(chance, lines, gap):
         lacking = []
     behind = own[first] if first < len(own) else len(lines)
     left = [(at, line) for at, line in enumerate(lines) if at not in lacking]
-    return [line for at, line in left if at < behind] + [Line((actor, GAP, None), [], None)] + [line for at, line in left if at >= behind]
+    return [line for at, line in left if at < behind] + [Line((actor, GAP, None), [], None, None)] + [line for at, line in left if at >= behind]
 
 
 def changed(chance, lines):
@@ -83,14 +116,30 @@ def changed(chance, lines):
     at = chance.randrange(len(lines))
     if is_gap(lines[at]):
         return swapped(lines, at)
-    line, kind = lines[at], chance.choice(['outcome', 'outcome', 'message', 'swap', 'swap', 'missing'])
+    line, kind = lines[at], chance.choice(['outcome', 'outcome', 'message', 'value', 'value', 'swap', 'swap', 'missing'])
+    if kind == 'value':
+        return with_another_value(chance, lines)
     if kind == 'swap':
         return swapped(lines, at)
     if kind == 'missing':
         return lines[:at] + lines[at + 1:]
     others = [outcome.split() for outcome in OUTCOMES if is_possible(line.choice[1], outcome.split())]
-    other = line._replace(told=chance.choice(others)) if kind == 'outcome' else line._replace(sent=chance.choice(KINDS))
+    other = line._replace(told=chance.choice(others), value=None) if kind == 'outcome' else line._replace(sent=chance.choice(KINDS))
     return lines[:at] + [other] + lines[at + 1:]
+
+
+def with_another_value(chance, lines):
+    """Lines of which one that tells of a run that did, if there is one, tells another value."""
+    did = [at for at, line in enumerate(lines) if line.told[:1] == ['did']]
+    if not did:
+        return lines
+    at = chance.choice(did)
+    return lines[:at] + [lines[at]._replace(value=another_value(chance, lines[at].value or 0))] + lines[at + 1:]
+
+
+def another_value(chance, value):
+    """A value that is not this one."""
+    return chance.choice([other for other in (value - 1, value + 1, value + 1000, 0, 1, LAST_VALUE) if 0 <= other <= LAST_VALUE and other != value])
 
 
 def swapped(lines, at):
@@ -127,6 +176,7 @@ def spelled(chance, scenario, line):
     words = [actor, action] + ([] if txn is None else [name_of(chance, scenario, txn)])
     if line.told:
         words += ['->'] + line.told[:1] + [name_of(chance, scenario, int(word)) if line.told[0] == 'active' else word for word in line.told[1:]]
+        words += [] if line.value is None else [chance.choice(['%d', '%d', '%010d']) % line.value]
     elif chance.random() < 0.5:
         words += ['->', '?']
     return chance.choice([' ', ' ', ' ', '\t']).join(words + (['!', line.sent] if line.sent else []))
