@@ -20,6 +20,12 @@ def fields_of(line):
     return {'actor': actor, 'do': action, **({'came': came[0]} if came else {}), **({'sent': sent[0]} if sent else {})}
 
 
+def with_value(fields):
+    """The fields of a line that tells a value, with a field for it."""
+    did = re.fullmatch('did[ \t]+([0-9]+)', fields.get('came', ''))
+    return {**fields, 'came': 'did', 'value': int(did[1])} if did else fields
+
+
 def string(chance, text):
     """A text as a string of JSON, some of its signs by their escapes."""
     signs = [ESCAPES.get(sign, '\\u%04x' % ord(sign)) if sign == '\t' or chance.random() < 0.1 else sign for sign in text]
@@ -29,7 +35,8 @@ def string(chance, text):
 def written(chance, fields):
     """Fields as one line of JSON: in any order, with spaces and other fields between."""
     space = lambda: chance.choice(SPACES)
-    members = [space() + string(chance, name) + space() + ':' + space() + string(chance, text) + space() for name, text in fields.items()]
+    told = {name: str(told) if name == 'value' else string(chance, told) for name, told in fields.items()}
+    members = [space() + string(chance, name) + space() + ':' + space() + text + space() for name, text in told.items()]
     members += chance.sample(OTHERS, chance.choice([0, 0, 1, 2]))
     chance.shuffle(members)
     return space() + '{' + ','.join(members) + '}' + space()
@@ -39,7 +46,7 @@ def objects_below(chance, text):
     """An input of logs with objects in place of the lines below its scenario, and as many lines."""
     lines = text.split('\n')
     end = next(i for i, line in enumerate(lines) if line.split(';')[0].split() == ['end'])
-    below = [fields_of(line) for line in lines[end + 1:]]
+    below = [fields and (with_value(fields) if chance.random() < 0.9 else fields) for fields in map(fields_of, lines[end + 1:])]
     return '\n'.join(lines[:end + 1] + [chance.choice(SPACES) if fields is None else written(chance, fields) for fields in below])
 
 
@@ -52,6 +59,7 @@ def plain(fields):
 FIELD = 'the field "%s" %s'
 SIGNS = 'has no line feed, no !, no ; and no >'
 NO_NUMBER = 'is a whole number from 0 to 4294967295, as 7; leave it out where there is nothing to tell'
+ALONE = 'stands beside "came":"did" alone'
 NO_OBJECT = 'a line is one object, as {"actor":"A","do":"run 0","came":"did"}'
 DAMAGED = (
     ('A run 0 -> did', 'the line is no JSON (byte 0)'),
@@ -78,13 +86,17 @@ DAMAGED = (
       for value in ('"7"', 'null', '[7]', 'true', '-7', '-0', '7.0', '7e0', '4294967296', '12345678901')),
     ('{"actor":"A","do":"run 0","came":"did","value":07}', None),
     ('{"actor":"A","do":"run 0","came":"waits 0","value":"7"}', FIELD % ('value', NO_NUMBER)),
-    *(('{"actor":"A","do":"run 0",%s"value":7}' % came, FIELD % ('value', 'stands beside "came":"did" alone'))
+    *(('{"actor":"A","do":"run 0",%s"value":7}' % came, FIELD % ('value', ALONE))
       for came in ('', '"came":"?",', '"came":"did ",', '"came":"did 7",', '"came":"waits 0",')),
     ('{"actor":"a","do":"run 0"}', 'the field "actor" is "C", "A" or "B"'),
     ('{"actor":"A","do":"run 0 -> did"}', FIELD % ('do', SIGNS)),
     ('{"actor":"A","do":"run 0","came":"did ! pull"}', FIELD % ('came', SIGNS)),
     ('{"actor":"A","do":"run 0","came":"did\\nB push"}', FIELD % ('came', SIGNS)),
     ('{"actor":"A","do":"run 0","sent":"pull ; late"}', FIELD % ('sent', SIGNS)),
+    ('{"value":"7","actor":"A","do":"run 0","came":"did","value":7}', FIELD % ('value', 'comes twice')),
+    ('{"actor":"A","do":"...","value":7}', FIELD % ('value', ALONE)),
+    ('{"actor":"A","do":"run 0","came":null,"value":"7"}', FIELD % ('came', 'is no string; leave it out where there is nothing to tell')),
+    ('{"actor":"A","do":"run 0","sent":1,"value":7}', FIELD % ('value', ALONE)),
 )
 
 # Objects, and the lines that they tell: escapes, surrogates, spaces, other fields, and such that nest as deep as may be.
@@ -93,6 +105,8 @@ TOLD = (
     ('{"actor":"A","do":"run 0","came":"did","value":7}', 'A run 0 -> did 7'),
     ('{"value": 4294967295 ,"c\\u0061me":"\\u0064id","actor":"A","do":"run 0","sent":"pull"}', 'A run 0 -> did 4294967295 ! pull'),
     ('{"actor":"A","do":"run 0","came":"did 7"}', 'A run 0 -> did 7'),
+    ('{"actor":"A","do":"run 0","came":"did","value":0,"Value":"7"}', 'A run 0 -> did 0'),
+    ('{"actor":"A","do":"take","came":"did","value":7}', 'A take -> did 7'),
     (' {\t"sent" : "pull","came":"pulls 0" ,"do":"run 0","actor":"B"}\r', 'B run 0 -> pulls 0 ! pull'),
     ('{"\\u0061ctor":"\\u0043","do":"st\\u0061rt"}', 'C start'),
     ('{"time":[-1e400,{"actor":null}],"time":2,"actor":"A","do":"take"}', 'A take'),
