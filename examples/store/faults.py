@@ -9,6 +9,7 @@ FAULTS = {
     'early': 'the destination is normal when one page is still missing',
     'nolock': 'a read takes no lock and looks at none',
     'old': 'a page leaves with the rows that it had when the migration started',
+    'more': 'a read at the destination returns 1000 too much',
 }
 
 

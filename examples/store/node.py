@@ -12,6 +12,9 @@ from faults import Slips
 # The modes in which a transaction may begin at each node. The client asks A first.
 BEGINS = {'A': ('normal', 'sinit'), 'B': ('dinit', 'ddual', 'dfinish', 'normal')}
 
+# Which operand of an instruction names the register that has its value once it is done.
+VALUED = {'set': 0, 'add': 0, 'read': 0, 'write': 1, 'insert': 1}
+
 
 class Abort(Exception):
     """The transaction cannot go on, for this reason."""
@@ -54,9 +57,9 @@ class Node:
         except (EOFError, OSError):
             connection.close()
 
-    def log(self, action, outcome):
+    def log(self, action, outcome, value=None):
         """Writes down a step of this node, and lets its message go."""
-        self.log_file.write(self.form.head(self.name, action) + self.form.tail(outcome, self.message and self.message[0]))
+        self.log_file.write(self.form.head(self.name, action) + self.form.tail(outcome, self.message and self.message[0], value))
         self.post()
 
     def post(self):
@@ -116,6 +119,7 @@ class Node:
 
     def attempt(self, transaction):
         """One try at the next instruction."""
+        value = None
         try:
             if self.mode == 'dinit':
                 raise NotNow('notyet')
@@ -123,12 +127,14 @@ class Node:
             outcome = getattr(self, 'do_' + operation)(transaction, *operands)
             if not outcome.startswith('split'):
                 transaction.done += 1
+            if outcome == 'did' and operation in VALUED:
+                value = transaction.registers[operands[VALUED[operation]]]
         except NotNow as reason:
             outcome = str(reason)
         except Abort as reason:
             outcome = 'aborted %s' % reason
             self.end(transaction, outcome)
-        self.log('run %d' % transaction.number, outcome)
+        self.log('run %d' % transaction.number, outcome, value)
         return outcome
 
     def did(self, transaction, register=None, value=0):
@@ -153,7 +159,8 @@ class Node:
     def do_read(self, transaction, register, at):
         key = transaction.registers[at]
         _, rows = self.page_for(transaction, key, 'shared')
-        return self.did(transaction, register, transaction.private.get(key, rows.get(key, 0)))
+        value = transaction.private.get(key, rows.get(key, 0))
+        return self.did(transaction, register, value + 1000 * self.slips.into('more', self.name == 'B'))
 
     def do_write(self, transaction, at, register):
         key = transaction.registers[at]

@@ -196,7 +196,7 @@ def play(text, folder, seed, fault=None, crash=None, store=STORE, is_json=False,
 
 
 def judged(words, text, end):
-    """What is said of a scenario with logs, and of the store's end if there is one: logs have no rows and no registers."""
+    """What is said of a scenario with logs, and of the store's end if there is one: no line of a log tells what a commit installs."""
     answer = ask(words, text)
     if answer.returncode or end is None:
         return VERDICTS.get(answer.returncode, 'status %d' % answer.returncode), answer.stderr.splitlines()
