@@ -50,24 +50,33 @@ def random_logs(chance, changes, gaps):
         return Logs(scenario._replace(choices=own), start, mixed_lines, gap, *written(chance, scenario, head, mixed_lines)), answer
 
 
-def wrong_values(chance, count):
-    """Right logs of a scenario of version 1, in which each line tells all of a step that changed something, but for the number of a commit; and a number of
-    logs of which one line tells a wrong value: each with that line and the word of its instruction. It is not the first of its transaction."""
+def right_run(chance, count):
+    """A scenario of version 1 with its text, the lines of a run, mixed, and a number or more of them whose value is told (lines_in_full)."""
     while True:
         scenario = read(text := random_text(chance))
         steps, _ = random_walk(chance, scenario, opening(scenario), False, 60)
         lines, valued = lines_in_full(scenario, steps) if scenario.version == 1 else ([], [])
         if len(valued) >= count:
-            break
-    lines = mixed(chance, split(lines))
-    logs_of = lambda lines: Logs(scenario, opening(scenario), lines, DEFAULT_GAP, *written(chance, scenario, text, lines))
-    wrong = [(line, line._replace(value=another_value(chance, line.value)), word) for line, word in chance.sample(valued, count)]
-    return logs_of(lines), [(logs_of([other if each is line else each for each in lines]), other, word) for line, other, word in wrong]
+            return scenario, text, mixed(chance, split(lines)), valued
+
+
+def wrong_values(chance, count):
+    """The right logs of a run; and a number of logs of which one line tells a wrong value: each with that line and the word of its instruction."""
+    scenario, text, lines, valued = right_run(chance, count)
+
+    def logs_of(lines):
+        return Logs(scenario, opening(scenario), lines, DEFAULT_GAP, *written(chance, scenario, text, lines))
+
+    others = []
+    for line, word in chance.sample(valued, count):
+        other = line._replace(value=another_value(chance, line.value))
+        others.append((logs_of([other if each is line else each for each in lines]), other, word))
+    return logs_of(lines), others
 
 
 def lines_in_full(scenario, steps):
-    """The lines of the steps of a run that changed something, and those that tell a value behind another line of their transaction, each with the word of
-    its instruction."""
+    """The lines of the steps of a run that changed something, each of which tells all but the number of a commit; and those of them that tell a value behind
+    another line of their transaction, each with the word of its instruction."""
     lines, valued, state, ran = [], [], opening(scenario), set()
     for choice in steps:
         shown, after = came_of(scenario, state, choice)
