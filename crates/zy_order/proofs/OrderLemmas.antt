@@ -94,7 +94,7 @@ line_of_step count l g next to o many w leads =
         unlogged o.entry.choice,
         record {
           choice = refl;
-          agrees = (tt, tt);
+          agrees = (tt, tt, tt);
           before = λ x lines a.
               with_line count x y l g to (filled k) (unlogged o.entry.choice) lines
               (ahead_missing count y log gaps k (cursor y to) (unlogged o.entry.choice) lines (record { is = refl; actor = refl; named = by.0.named }))

@@ -11,7 +11,6 @@ use Rattle.zy_isa.specs.declared.choice.Choice.TheVariants.{Start, Begin, Run, T
 use Rattle.zy_isa.specs.Scenario.{Scenario}
 use Rattle.zy_model.specs.declared.kind.Kind.{Kind}
 use Rattle.zy_model.specs.declared.kind.Kind.TheVariants as kind
-use Rattle.zy_patterns.specs.Patterns.{matches}
 use Rattle.zy_patterns.specs.declared.patterns.OutcomePattern.{OutcomePattern}
 use Rattle.zy_patterns.specs.declared.patterns.OutcomePattern.TheVariants as pattern
 use Rattle.zy_table.specs.Change.{txn_at, begun, aborted, did, locked, shares, committed, cut, asks, leaves}
@@ -37,11 +36,11 @@ one = record { version = One; cap = 4; pages = 1; rule = Held; rows = []; progra
 
 -- the transaction begins at A
 abbrev begins : LogLine
-begins = record { choice = Begin 0; told = Some (pattern.Began (Some A)); sent = None }
+begins = record { choice = Begin 0; told = Some (pattern.Began (Some A)); value = None; sent = None }
 
 -- a run of it at A, of which this came
 abbrev run : Option OutcomePattern → LogLine
-run came = record { choice = Run A 0; told = came; sent = None }
+run came = record { choice = Run A 0; told = came; value = None; sent = None }
 
 -- the lines of A, and then that of the client
 abbrev lines : List LogLine
@@ -50,7 +49,7 @@ lines = run (Some pattern.Did) ∷ run (Some (pattern.Committed (Some 1))) ∷ b
 -- the client's line comes first: they fit
 client_first : Fits one (opening one) (begins ∷ run (Some pattern.Did) ∷ run (Some (pattern.Committed (Some 1))) ∷ [])
 unfolding table
-client_first = ((refl, tt), ((refl, tt), ((refl, tt), tt)))
+client_first = ((refl, tt, tt), ((refl, tt, tt), ((refl, tt, tt), tt)))
 
 -- the lines as they stand do not fit: the transaction has not begun, and the run is idle
 client_last : Fits one (opening one) lines → ⊥
@@ -92,34 +91,50 @@ too_many gap = absurd (omega (arith, gap.few))
 -- a run without an outcome fits where the transaction has not begun
 idle_first : Fits one (opening one) (run None ∷ begins ∷ [])
 unfolding table
-idle_first = ((tt, tt), ((refl, tt), tt))
+idle_first = ((tt, tt, tt), ((refl, tt, tt), tt))
 
 -- and where it has
 begun_first : Fits one (opening one) (begins ∷ run None ∷ [])
 unfolding table
-begun_first = ((refl, tt), ((tt, tt), tt))
+begun_first = ((refl, tt, tt), ((tt, tt, tt), tt))
+
+-- ---- a value
+
+-- the run that sets the register, with a value
+abbrev shows : ℕ → LogLine
+shows v = record { choice = Run A 0; told = Some pattern.Did; value = Some v; sent = None }
+
+-- it is set to 10
+set_to_ten : Fits one (opening one) (begins ∷ shows 10 ∷ [])
+unfolding table
+set_to_ten = ((refl, tt, tt), ((refl, refl, tt), tt))
+
+-- so no other value fits
+not_to_seven : Fits one (opening one) (begins ∷ shows 7 ∷ []) → ⊥
+unfolding table
+not_to_seven fits = let value : Some 10 ≡ Some 7 = fits.1.0.1 in absurd (cc value)
 
 -- ---- a message
 
 -- a migration starts
 abbrev starts : LogLine
-starts = record { choice = Start; told = Some pattern.Started; sent = Some kind.Wire }
+starts = record { choice = Start; told = Some pattern.Started; value = None; sent = Some kind.Wire }
 
 -- B takes the wireframe, and this message was logged, or none
 abbrev takes : Option Kind → LogLine
-takes sent = record { choice = Take B; told = Some pattern.GotWire; sent = sent }
+takes sent = record { choice = Take B; told = Some pattern.GotWire; value = None; sent = sent }
 
 -- it sends ready, as was logged
 sends_ready : Fits one (opening one) (starts ∷ takes (Some kind.Ready) ∷ [])
 unfolding table
-sends_ready = ((refl, refl), ((refl, refl), tt))
+sends_ready = ((refl, tt, refl), ((refl, tt, refl), tt))
 
 -- a line without a message agrees with that too
 says_nothing : Fits one (opening one) (starts ∷ takes None ∷ [])
 unfolding table
-says_nothing = ((refl, refl), ((refl, tt), tt))
+says_nothing = ((refl, tt, refl), ((refl, tt, tt), tt))
 
 -- one with another message does not
 sends_no_dual : Fits one (opening one) (starts ∷ takes (Some kind.Dual) ∷ []) → ⊥
 unfolding table
-sends_no_dual fits = let sent : Some kind.Ready ≡ Some kind.Dual = fits.1.0.1 in absurd (cc sent)
+sends_no_dual fits = let sent : Some kind.Ready ≡ Some kind.Dual = fits.1.0.2 in absurd (cc sent)
