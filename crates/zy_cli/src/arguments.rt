@@ -9,21 +9,35 @@ use zy_search::MOST_THREADS;
 /// An argument of a command: a flag of this name, or the file.
 #[derive(Clone, Copy)]
 pub enum Argument {
+    /// `--image`: the input is an image.
     Image,
     /// `--json`, and what it means.
     Json(&'static str),
+    /// `--every N`: how often `debug` keeps a copy of the state.
     Every,
+    /// `--ring N`: how many copies it keeps.
     Ring,
+    /// `--for GOAL`: what is looked for.
     For,
+    /// `--always GOAL`: what is to hold in every state.
     Always,
+    /// `--from N`: how many of the choices are already taken.
     From,
+    /// `--kill`: kills are considered.
     Kill,
+    /// `--without KIND`: choices of this kind are not considered.
     Without,
+    /// `--states N`: how many states are kept at most.
     States,
+    /// `--threads N`: how many threads search.
     Threads,
+    /// `--canon`: the canonical text is written.
     Canon,
+    /// `--gap N`: how many steps a gap may stand for.
     Gap,
+    /// `--settled`: the order has to end with no migration under way.
     Settled,
+    /// `--furthest PATH`: where the furthest order is kept.
     Furthest,
     /// The file that is read, and what is read without it.
     File(&'static str),

@@ -7,6 +7,13 @@ use zy_table::{Outcome, Status};
 
 const _: () = prove!(MAX_TXNS == 64);
 
+/// What was tried with a transaction.
+#[derive(Clone, Copy)]
+enum Tried {
+    Steps,
+    Kills,
+}
+
 /// What came of the steps and kills of a transaction.
 #[derive(Clone, Copy)]
 pub struct Attempts {
@@ -102,9 +109,9 @@ impl AttemptsByTxn {
     /// beginning, and what is said of a transaction that was run at the other node does not count those.
     pub fn of(machine: &Machine, doubtful: Doubtful) -> AttemptsByTxn {
         let mut attempts = AttemptsByTxn([Attempts::NONE; 64]);
-        attempts.note_all(machine, doubtful, false);
+        attempts.note_all(machine, doubtful, Tried::Steps);
         if doubtful.has_new || !attempts.has_elsewhere() {
-            attempts.note_all(machine, doubtful, true);
+            attempts.note_all(machine, doubtful, Tried::Kills);
         }
         attempts
     }
@@ -115,11 +122,11 @@ impl AttemptsByTxn {
     }
 
     /// Notes what came of each step, or of each kill.
-    fn note_all(&mut self, machine: &Machine, doubtful: Doubtful, are_kills: bool) {
+    fn note_all(&mut self, machine: &Machine, doubtful: Doubtful, tried: Tried) {
         for entry in machine.entries() {
-            let txn = match entry.choice {
-                Choice::Run(_, txn) if !are_kills => txn,
-                Choice::Kill(txn) if are_kills => txn,
+            let txn = match (entry.choice, tried) {
+                (Choice::Run(_, txn), Tried::Steps) => txn,
+                (Choice::Kill(txn), Tried::Kills) => txn,
                 _ => continue,
             };
             if doubtful.has(txn) {
