@@ -75,16 +75,15 @@ def wrong_values(chance, count):
 
 
 def lines_in_full(scenario, steps):
-    """The lines of the steps of a run that changed something, each of which tells all but the number of a commit; and those of them that tell a value behind
-    another line of their transaction, each with the word of its instruction."""
-    lines, valued, state, ran = [], [], opening(scenario), set()
+    """The lines of the steps of a run that changed something, each of which tells all but the number of a commit; and those of them that tell a value, each
+    with the word of its instruction."""
+    lines, valued, state = [], [], opening(scenario)
     for choice in steps:
         shown, after = came_of(scenario, state, choice)
         if after != state:
             lines.append(Line(choice, shown.outcome[:1] if shown.outcome[0] == 'committed' else shown.outcome, shown.value, shown.sent))
-            if shown.value is not None and choice in ran:
+            if shown.value is not None:
                 valued.append((lines[-1], scenario.programs[choice[2]][state.txns[choice[2]].pc][0]))
-            ran.add(choice)
         state = after
     return lines, valued
 

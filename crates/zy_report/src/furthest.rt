@@ -117,12 +117,50 @@ impl<'a> Furthest<'a> {
         None
     }
 
-    /// What the step shows that comes at its end of the choice of a line that does not fit there.
+    /// What the step shows that comes of the choice of a line that does not fit: once its transaction has begun, if only its begin is
+    /// wanting, and else at its end.
     fn instead(&self, alloc: Global, line: LogLine) -> Result<Option<Observation>, Fault> {
+        let mut machine = self.machine.copy(alloc)?;
+        let shown = self.once_begun(&mut machine, line);
+        machine.discard();
+        match shown? {
+            Some(shown) => Ok(Some(shown)),
+            None => self.at_end(alloc, line),
+        }
+    }
+
+    /// What the step shows that comes at its end of the choice of a line that does not fit there.
+    fn at_end(&self, alloc: Global, line: LogLine) -> Result<Option<Observation>, Fault> {
         let mut machine = self.machine.copy(alloc)?;
         let shown = disagreeing(&mut machine, line);
         machine.discard();
         shown
+    }
+
+    /// The same once the line's transaction has begun, on a machine that is at its end: by the client's lines that it does not take,
+    /// as a furthest order takes no more of them than the nodes' lines need. None if these do not begin it.
+    fn once_begun(
+        &self,
+        machine: &mut Machine,
+        line: LogLine,
+    ) -> Result<Option<Observation>, Fault> {
+        let Choice::Run(_, t) = line.choice else {
+            return Ok(None);
+        };
+        let mut passed = 0usize;
+        for line_of_log in self.lines {
+            let Some(next) = step_by(line_of_log, Actor::C) else {
+                continue;
+            };
+            if passed < self.taken.c {
+                passed = passed.saturating_add(1);
+            } else if disagreeing(machine, next.step)?.is_some() {
+                return Ok(None);
+            } else if next.step.choice == Choice::Begin(t) {
+                return disagreeing(machine, line);
+            }
+        }
+        Ok(None)
     }
 
     /// The first line of the client that does not fit where those before it are made behind its end, on a machine that is there,
