@@ -10,6 +10,7 @@ FAULTS = {
     'nolock': 'a read takes no lock and looks at none',
     'old': 'a page leaves with the rows that it had when the migration started',
     'more': 'a read at the destination returns 1000 too much',
+    'lost': 'the message that the source has no active transaction is lost',
 }
 
 

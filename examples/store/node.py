@@ -64,7 +64,8 @@ class Node:
 
     def post(self):
         if self.message:
-            self.outbox.put(self.message)
+            if not self.slips.into('lost', self.message == ['finish']):
+                self.outbox.put(self.message)
             self.message = None
 
     # What the client asks for. `step` alone is a step of this node; the others are the client's, which writes them into its own log.
