@@ -117,39 +117,51 @@ impl<'a> Furthest<'a> {
         None
     }
 
-    /// What the step shows that comes of the choice of a line that does not fit: once its transaction has begun, if only its begin is
-    /// wanting, and else at its end.
+    /// What the step shows that comes of the choice of a line that does not fit: another value once its transaction has begun, if only
+    /// its begin is wanting, and else what comes at its end.
     fn instead(&self, alloc: Global, line: LogLine) -> Result<Option<Observation>, Fault> {
-        let mut machine = self.machine.copy(alloc)?;
-        let shown = self.once_begun(&mut machine, line);
-        machine.discard();
-        match shown? {
-            Some(shown) => Ok(Some(shown)),
-            None => self.at_end(alloc, line),
+        let value = self.other_value(alloc, line)?;
+        if value.is_some() {
+            return Ok(value);
         }
-    }
-
-    /// What the step shows that comes at its end of the choice of a line that does not fit there.
-    fn at_end(&self, alloc: Global, line: LogLine) -> Result<Option<Observation>, Fault> {
         let mut machine = self.machine.copy(alloc)?;
         let shown = disagreeing(&mut machine, line);
         machine.discard();
         shown
     }
 
-    /// The same once the line's transaction has begun, on a machine that is at its end: by the client's lines that it does not take,
-    /// as a furthest order takes no more of them than the nodes' lines need. None if these do not begin it.
-    fn once_begun(
-        &self,
-        machine: &mut Machine,
-        line: LogLine,
-    ) -> Result<Option<Observation>, Fault> {
+    /// What the step of a line shows that tells a value, if its transaction begins by lines of the client that are left, and its
+    /// value is then another one. None where a gap may stand for its begin.
+    fn other_value(&self, alloc: Global, line: LogLine) -> Result<Option<Observation>, Fault> {
         let Choice::Run(_, t) = line.choice else {
             return Ok(None);
         };
+        if line.value.is_none() || !self.is_new(t) || self.has_gap() {
+            return Ok(None);
+        }
+        let mut machine = self.machine.copy(alloc)?;
+        let shown = self.once_begun(&mut machine, t, line);
+        machine.discard();
+        shown
+    }
+
+    /// Whether steps of an actor may be missing.
+    fn has_gap(&self) -> bool {
+        self.lines
+            .iter()
+            .any(|line| matches!(line.logged, Logged::Gap(_)))
+    }
+
+    /// The same on a machine that is at its end: a furthest order takes no more lines of the client than it needs.
+    fn once_begun(
+        &self,
+        machine: &mut Machine,
+        t: u8,
+        line: LogLine,
+    ) -> Result<Option<Observation>, Fault> {
         let mut passed = 0usize;
-        for line_of_log in self.lines {
-            let Some(next) = step_by(line_of_log, Actor::C) else {
+        for numbered in self.lines {
+            let Some(next) = step_by(numbered, Actor::C) else {
                 continue;
             };
             if passed < self.taken.c {
@@ -157,7 +169,7 @@ impl<'a> Furthest<'a> {
             } else if disagreeing(machine, next.step)?.is_some() {
                 return Ok(None);
             } else if next.step.choice == Choice::Begin(t) {
-                return disagreeing(machine, line);
+                return did_otherwise(machine, line);
             }
         }
         Ok(None)
@@ -261,7 +273,9 @@ impl<'a> Furthest<'a> {
         line: NumberedStep,
         shown: &Observation,
     ) {
-        if let Ok(step) = step_line(rt.alloc(), shown, line.step.value.is_some()) {
+        // A step that shows a value sends no message.
+        let value = line.step.value.and(shown.value);
+        if let Ok(step) = step_line(rt.alloc(), &shown.entry, value) {
             let unfit = Unfit {
                 file,
                 number: line.number,
@@ -297,16 +311,22 @@ fn disagreeing(machine: &mut Machine, line: LogLine) -> Result<Option<Observatio
     Ok(Some(shown))
 }
 
-/// A step as a listing has it and, where it is asked for, its value behind it: a step that has one sends no message.
-fn step_line(
-    alloc: Global,
-    shown: &Observation,
-    with_value: bool,
-) -> Result<LineBuffer, AllocError> {
+/// What the step of a line shows on a machine, where it did its instruction and does not agree with the line.
+fn did_otherwise(machine: &mut Machine, line: LogLine) -> Result<Option<Observation>, Fault> {
+    match disagreeing(machine, line)? {
+        Some(shown) => match shown.entry.outcome {
+            Outcome::Did => Ok(Some(shown)),
+            _ => Ok(None),
+        },
+        None => Ok(None),
+    }
+}
+
+/// A step as a listing has it, and a value behind it, if there is one.
+fn step_line(alloc: Global, entry: &Entry, value: Option<u32>) -> Result<LineBuffer, AllocError> {
     let mut line = LineBuffer::new(alloc);
-    let entry = &shown.entry;
     StepLine { number: 1, entry }.append(&mut line)?;
-    if let (Some(value), true) = (shown.value, with_value) {
+    if let Some(value) = value {
         joined!(" ", Decimal(value)).append(&mut line)?;
     }
     Ok(line)
