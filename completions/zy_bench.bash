@@ -1,4 +1,4 @@
-# Completion of zy_bench, zview, zdb, zplay and zsuite for bash.
+# Completion of zy_bench, zview, zdb, zplay, zsuite and zlogs for bash.
 
 _zy_bench() {
   local word=${COMP_WORDS[COMP_CWORD]} before=${COMP_WORDS[COMP_CWORD - 1]} options
@@ -42,5 +42,6 @@ _zview() {
 complete -F _zy_bench -o filenames -o default zy_bench
 complete -F _zview -o filenames zview
 complete -f -W '--help' zdb
+complete -f -W '--help' zlogs
 complete -f -W '--port --no-open --help' zplay
 complete -f -W '--all --for --always --image --from --kill --without --states --help' zsuite

@@ -1,4 +1,4 @@
-# Completion of zy_bench, zview, zdb, zplay and zsuite for fish.
+# Completion of zy_bench, zview, zdb, zplay, zsuite and zlogs for fish.
 set -l commands run asm dis check threads trace debug search find end order help
 
 complete -c zy_bench -f -n "not __fish_seen_subcommand_from $commands" -a "$commands"
@@ -34,6 +34,8 @@ complete -c zview -l find -x -d 'Mark the states that meet a goal'
 complete -c zview -l help -s h -d 'Print help'
 
 complete -c zdb -l help -s h -d 'Print help'
+
+complete -c zlogs -l help -s h -d 'Print help'
 
 complete -c zplay -l port -x -d 'The port'
 complete -c zplay -l no-open -d 'Open no browser'

@@ -47,7 +47,7 @@ KINDS = {
 GROUPS = ('definitions', 'code', 'proofs', 'scripts', 'tests', 'docs', 'editors')
 FOLDERS = {'specs': 'definitions', 'src': 'code', 'proofs': 'proofs', 'tests': 'tests', 'docs': 'docs', 'README.md': 'docs', 'editors': 'editors',
            'completions': 'editors'}
-LOOKED_AT = ('crates', 'tools', 'zy_bench', 'zdb', 'zplay', 'zsuite', 'zview', 'examples/store', 'tests', 'docs', 'README.md', 'editors', 'completions')
+LOOKED_AT = ('crates', 'tools', 'zy_bench', 'zdb', 'zlogs', 'zplay', 'zsuite', 'zview', 'examples/store', 'tests', 'docs', 'README.md', 'editors', 'completions')
 LEFT_OUT = re.compile(r'tests/(cases/(?!help-of)|mutants/|asked/|needed-runs|faults\.py|mentions)|docs/(believe\.md|logs/|pictures/)|tools/mentions\.py|.*\.zephyr$')
 
 ENUM = re.compile(r'^(?:pub(?:\(crate\))? )?enum (\w+)[^{]*\{\n(.*?)^\}', re.MULTILINE | re.DOTALL)

@@ -13,7 +13,7 @@ SCRIPT = os.path.join(TOP, 'zy_bench')
 BUILT = os.path.join(TOP, 'crates', 'zy_bench', 'out', 'zy_bench')
 
 # What goes along, below the top.
-ALONG = ('zview', 'zdb', 'zplay', 'zsuite', 'install', 'README.md', 'CONTRIBUTING.md', 'LICENSE-APACHE', 'LICENSE-MIT', 'completions/_zy_bench',
+ALONG = ('zview', 'zdb', 'zplay', 'zsuite', 'zlogs', 'install', 'README.md', 'CONTRIBUTING.md', 'LICENSE-APACHE', 'LICENSE-MIT', 'completions/_zy_bench',
          'completions/zy_bench.bash', 'completions/zy_bench.fish', 'docs/*.md', 'docs/logs/*.logs', 'docs/man/*.1', 'docs/pictures/*.svg',
          'docs/pictures/*.png', 'editors/**/*.vim', 'editors/**/*.json', 'examples/*.zephyr', 'examples/store/*.py', 'examples/store/try',
          'examples/store/suite', 'tools/*.py', 'tools/*/*.py', 'tools/*/*.js', 'tools/*/*.css', 'tools/*/*.html', 'tools/suite/programs/*.zephyr')

@@ -1,7 +1,7 @@
 """Where the files of a release are installed, below a prefix."""
 
 SHARE = 'share/zy_bench'
-SCRIPTS = ('zview', 'zdb', 'zplay', 'zsuite')
+SCRIPTS = ('zview', 'zdb', 'zplay', 'zsuite', 'zlogs')
 COMMANDS = ('zy_bench', *SCRIPTS)
 
 # What only a checkout or a release needs.
