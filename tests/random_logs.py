@@ -51,11 +51,11 @@ def random_logs(chance, changes, gaps):
 
 
 def right_run(chance, count):
-    """A scenario of version 1 with its text, the lines of a run, mixed, and a number or more of them whose value is told (lines_in_full)."""
+    """A scenario with its text, the lines of a run, mixed, and a number or more of them whose value is told (lines_in_full)."""
     while True:
         scenario = read(text := random_text(chance))
         steps, _ = random_walk(chance, scenario, opening(scenario), False, 60)
-        lines, valued = lines_in_full(scenario, steps) if scenario.version == 1 else ([], [])
+        lines, valued = lines_in_full(scenario, steps)
         if len(valued) >= count:
             return scenario, text, mixed(chance, split(lines)), valued
 
