@@ -59,7 +59,7 @@ def plain(fields):
 FIELD = 'the field "%s" %s'
 SIGNS = 'has no line feed, no !, no ; and no >'
 NO_NUMBER = 'is a whole number from 0 to 4294967295, as 7; leave it out where there is nothing to tell'
-ALONE = 'stands beside "came":"did" alone'
+ALONE = 'is allowed only beside "came":"did"'
 NO_OBJECT = 'a line is one object, as {"actor":"A","do":"run 0","came":"did"}'
 DAMAGED = (
     ('A run 0 -> did', 'the line is no JSON (byte 0)'),

@@ -4,7 +4,8 @@ use Rattle.zy_isa.specs.Scenario.{Scenario}
 use Rattle.zy_text.specs.Canon.{canon}
 use Rattle.zy_image.specs.Image.{image_of}
 use Rattle.zy_listing.specs.Run.{listing_run}
-use Rattle.zy_trace.specs.Trace.{step_objects, trace, traced_objects}
+use Rattle.zy_trace.specs.Trace.{steps_text, trace}
+use Rattle.zy_trace.specs.declared.form.StepForm.TheVariants as step
 use Rattle.zy_engine.specs.declared.output.SourceFormat.{SourceFormat}
 use Rattle.zy_engine.specs.declared.output.SourceFormat.TheVariants.{Image, Text}
 use Rattle.zy_engine.specs.declared.output.RunFormat.{RunFormat}
@@ -19,5 +20,5 @@ output_of Text = canon
 abbrev pub shown_of : RunFormat → Scenario → List ℕ
 shown_of Listing = listing_run
 shown_of Trace = trace
-shown_of Objects = step_objects
-shown_of TracedObjects = traced_objects
+shown_of Objects = steps_text step.Object
+shown_of TracedObjects = steps_text step.TracedObject

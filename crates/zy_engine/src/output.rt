@@ -11,7 +11,8 @@ use zy_io::{Sink, TextFault};
 use zy_isa::Scenario;
 use zy_listing::run::write_run;
 use zy_machine::Machine;
-use zy_trace::trace;
+use zy_trace::form::StepForm;
+use zy_trace::trace::{write_each_step, write_trace};
 
 /// What can be written of a scenario's run.
 #[derive(Clone, Copy)]
@@ -39,9 +40,11 @@ impl RunFormat {
     {
         match self {
             RunFormat::Listing => write_run(alloc, scenario, sink),
-            RunFormat::Trace => trace::write_trace(alloc, scenario, sink),
-            RunFormat::Objects => trace::write_objects(alloc, scenario, sink),
-            RunFormat::TracedObjects => trace::write_traced_objects(alloc, scenario, sink),
+            RunFormat::Trace => write_trace(alloc, scenario, sink),
+            RunFormat::Objects => write_each_step(StepForm::Object, alloc, scenario, sink),
+            RunFormat::TracedObjects => {
+                write_each_step(StepForm::TracedObject, alloc, scenario, sink)
+            }
         }
     }
 }

@@ -14,7 +14,7 @@ use Rattle.zy_json.specs.declared.field.Member.TheVariants as field
 use Rattle.zy_json.specs.declared.step.JsonStep.{JsonStep}
 use Rattle.zy_json.specs.Fields.{key_of, ends_part}
 use Rattle.zy_json.specs.Meaning.{IsJson, Reads, step_found, step_told}
-use Rattle.zy_json.specs.Objects.{values_of, only, found, found_or, if_string, text_of, if_part, part_of, number_in, if_number, number_told, is_did, if_did, value_in, present, actor_of, actor_in, action_in, step_in}
+use Rattle.zy_json.specs.Objects.{values_of, only, found, found_or, if_string, text_of, if_part, part_of, number_in, if_number, number_told, is_did, if_did, value_beside, present, actor_of, actor_in, action_in, step_in}
 
 -- a fault that members can have
 abbrev IsTold : JsonFault → Type 0
@@ -81,7 +81,7 @@ named_told name = chosen (bytes_eq name (codes "C")) (Ok C) _ tt
 found_told : (f : Member) (ms : Members) → HasTold (part_of f ms)
 found_told f ms = both (text_of f ms) (if_part f) (text_told f ms) (part_told f)
 
-value_told : (came : Option (List ℕ)) (ms : Members) → HasTold (value_in came ms)
+value_told : (came : Option (List ℕ)) (ms : Members) → HasTold (value_beside came ms)
 value_told came ms =
     let one = only_told field.Value (values_of (key_of field.Value) ms) in
     both (number_told ms) (if_did came) (both (found field.Value ms) if_number one if_number_told) (did_told came)
@@ -97,7 +97,7 @@ action_told ms = both (part_of field.Action ms) (present field.Action) (found_to
 -- members have such faults alone
 members_told : (ms : Members) → HasTold (step_in ms)
 members_told ms = both (actor_in ms) _ (actor_told ms) (λ who. both (action_in ms) _ (action_told ms) (λ what.
-    both (part_of field.Came ms) _ (found_told field.Came ms) (λ came. both (value_in came ms) _ (value_told came ms) (λ value.
+    both (part_of field.Came ms) _ (found_told field.Came ms) (λ came. both (value_beside came ms) _ (value_told came ms) (λ value.
     both (part_of field.Sent ms) _ (found_told field.Sent ms) (λ sent. tt)))))
 
 -- and so has any value

@@ -10,16 +10,16 @@ use Rattle.json.specs.Json.{Json, Members, no_members, number, string}
 use Rattle.zy_isa.specs.declared.node.Actor.{Actor}
 use Rattle.zy_isa.specs.declared.node.Actor.TheVariants.{C, A, B}
 use Rattle.zy_isa.proofs.ResultLemmas.{bind_ok, if_ok, same}
-use Rattle.zy_isa.specs.Integers.{max_u32}
+use Rattle.zy_isa.specs.Limits.{max_value}
 use Rattle.zy_json.specs.declared.faults.JsonFault.TheVariants.{NotDid, NotNumber, Sign}
 use Rattle.zy_json.specs.declared.field.Member.{Member}
 use Rattle.zy_json.specs.declared.field.Member.TheVariants as field
 use Rattle.zy_text.proofs.WordLemmas.{number_of-decimal}
 use Rattle.zy_text.specs.Words.{number_of}
 use Rattle.zy_json.specs.Fields.{ends_part, key_of}
-use Rattle.zy_json.specs.Objects.{actor_of, actor_in, action_in, found, found_or, if_did, if_number, if_part, is_did, number_in, number_told, part_of, present, small, step_in, text_of, value_in, values_of}
+use Rattle.zy_json.specs.Objects.{actor_of, actor_in, action_in, found, found_or, if_did, if_number, if_part, is_did, number_in, number_told, part_of, present, small, step_in, text_of, value_beside, values_of}
 use Rattle.zy_json.specs.Steps.{Step, actor_text}
-use Rattle.zy_json.specs.Words.{IsPart, IsLine, IsShown}
+use Rattle.zy_json.specs.Words.{IsPart, IsLine, IsBesideDid}
 use Rattle.zy_json.proofs.WrittenLemmas.{members_of, some_member, value_member}
 use borrow.Author.Tests.{tests}
 
@@ -74,14 +74,14 @@ part f ms None e p = rw e refl
 part f ms (Some text) e p = rw (e, p) refl
 
 -- and so is a number that a step that did shows
-shown_number : (n : ℕ) → n ≤ max_u32 → number_in (number (decimal n)) ≡ Some n
+shown_number : (n : ℕ) → n ≤ max_value → number_in (number (decimal n)) ≡ Some n
 shown_number n few = rw (number_of-decimal n (omega arith), is_small n few) refl
   where
-    is_small : (n : ℕ) → n ≤ max_u32 → nat_le n max_u32 ≡ true
+    is_small : (n : ℕ) → n ≤ max_value → nat_le n max_value ≡ true
     is_small n few = grind (arith, tests)
 
 value : (came : Option (List ℕ)) (ms : Members) (o : Option ℕ) → values_of (key_of field.Value) ms ≡ number_value o
-    → IfSome o (IsShown came) → value_in came ms ≡ Ok o
+    → IfSome o (IsBesideDid came) → value_beside came ms ≡ Ok o
 value came ms None e p = rw e refl
 value came ms (Some n) e p = rw (e, shown_number n p.0, p.1) refl
 
@@ -144,24 +144,24 @@ found_is_part : (f : Member) (ms : Members) (p : Option (List ℕ)) → part_of 
 found_is_part f ms p e = let q = bind_ok (text_of f ms) (if_part f) p e in is_part f q.0 p q.2
 
 -- a small number is of 32 bits
-small_is_small : (o : Option ℕ) (n : ℕ) → option_and_then small o ≡ Some n → n ≤ max_u32
+small_is_small : (o : Option ℕ) (n : ℕ) → option_and_then small o ≡ Some n → n ≤ max_value
 small_is_small None n e = absurd (cc)
-small_is_small (Some m) n e = by_test (nat_le m max_u32) refl e
+small_is_small (Some m) n e = by_test (nat_le m max_value) refl e
   where
-    by_test : (b : Bool) → nat_le m max_u32 ≡ b → (if b then Some m else None) ≡ Some n → n ≤ max_u32
-    by_test true t e = let same : m ≡ n = cc in let few : m ≤ max_u32 = grind (arith, tests) in omega arith
+    by_test : (b : Bool) → nat_le m max_value ≡ b → (if b then Some m else None) ≡ Some n → n ≤ max_value
+    by_test true t e = let same : m ≡ n = cc in let few : m ≤ max_value = grind (arith, tests) in omega arith
     by_test false t e = absurd (cc)
 
 -- and so is a number that was found
-number_is_small : (j : Option Json) (o : Option ℕ) → if_number j ≡ Ok o → IfSome o (λ n. n ≤ max_u32)
-number_is_small None o e = let same : None ≡ o = cc in subst (λ p. IfSome p (λ n. n ≤ max_u32)) same tt
+number_is_small : (j : Option Json) (o : Option ℕ) → if_number j ≡ Ok o → IfSome o (λ n. n ≤ max_value)
+number_is_small None o e = let same : None ≡ o = cc in subst (λ p. IfSome p (λ n. n ≤ max_value)) same tt
 number_is_small (Some j) o e = by_number (number_in j) refl e
   where
-    by_number : (p : Option ℕ) → number_in j ≡ p → found_or NotNumber p ≡ Ok o → IfSome o (λ n. n ≤ max_u32)
+    by_number : (p : Option ℕ) → number_in j ≡ p → found_or NotNumber p ≡ Ok o → IfSome o (λ n. n ≤ max_value)
     by_number None is f = absurd (cc)
     by_number (Some n) is f =
         let same : Some n ≡ o = cc in
-        subst (λ p. IfSome p (λ n. n ≤ max_u32)) same (small_is_small (option_and_then number_of (as_number j)) n is)
+        subst (λ p. IfSome p (λ n. n ≤ max_value)) same (small_is_small (option_and_then number_of (as_number j)) n is)
 
 -- the step did
 did : (came : Option (List ℕ)) → is_did came ≡ true → came ≡ Some (codes "did")
@@ -169,14 +169,14 @@ did None e = absurd (cc)
 did (Some text) e = ap Some (same text (codes "did") e)
 
 -- a number that was found beside what came is shown
-beside_is_shown : (came : Option (List ℕ)) (p o : Option ℕ) → if_did came p ≡ Ok o → IfSome p (λ n. n ≤ max_u32) → IfSome o (IsShown came)
-beside_is_shown came None o e h = let same : None ≡ o = cc in subst (λ q. IfSome q (IsShown came)) same tt
+beside_is_shown : (came : Option (List ℕ)) (p o : Option ℕ) → if_did came p ≡ Ok o → IfSome p (λ n. n ≤ max_value) → IfSome o (IsBesideDid came)
+beside_is_shown came None o e h = let same : None ≡ o = cc in subst (λ q. IfSome q (IsBesideDid came)) same tt
 beside_is_shown came (Some n) o e h =
     let q = if_ok (is_did came) (Ok (Some n)) NotDid o e in
     let same : Some n ≡ o = let f = q.1 in cc in
-    subst (λ q. IfSome q (IsShown came)) same (h, did came q.0)
+    subst (λ q. IfSome q (IsBesideDid came)) same (h, did came q.0)
 
-value_is_shown : (came : Option (List ℕ)) (ms : Members) (o : Option ℕ) → value_in came ms ≡ Ok o → IfSome o (IsShown came)
+value_is_shown : (came : Option (List ℕ)) (ms : Members) (o : Option ℕ) → value_beside came ms ≡ Ok o → IfSome o (IsBesideDid came)
 value_is_shown came ms o e =
     let q = bind_ok (number_told ms) (if_did came) o e in
     let r = bind_ok (found field.Value ms) if_number q.0 q.1 in
@@ -198,7 +198,7 @@ IsLine-step_in ms s e =
     let who = bind_ok (actor_in ms) _ s e in
     let what = bind_ok (action_in ms) _ s who.2 in
     let came = bind_ok (part_of field.Came ms) _ s what.2 in
-    let value = bind_ok (value_in came.0 ms) _ s came.2 in
+    let value = bind_ok (value_beside came.0 ms) _ s came.2 in
     let sent = bind_ok (part_of field.Sent ms) _ s value.2 in
     let made : record { actor = who.0; action = what.0; came = came.0; value = value.0; sent = sent.0 } ≡ s = cc in
     subst IsLine made (record {

@@ -7,11 +7,11 @@ use Rattle.std.specs.Prelude.{IfSome}
 use Rattle.std.specs.Str.{IsUtf8}
 use Rattle.json.specs.Print.{quoted}
 use Rattle.json.proofs.Printed.Utf8.{are_ascii, IsUtf8-are_ascii, IsUtf8-quoted}
-use Rattle.zy_isa.specs.Integers.{max_u32}
+use Rattle.zy_isa.specs.Limits.{max_value}
 use Rattle.zy_isa.specs.declared.node.Actor.{Actor}
 use Rattle.zy_isa.specs.declared.node.Actor.TheVariants.{C, A, B}
 use Rattle.zy_json.specs.Steps.{Step, actor_text, behind, digits_of}
-use Rattle.zy_json.specs.Words.{IsLine, IsShown}
+use Rattle.zy_json.specs.Words.{IsLine, IsBesideDid}
 use Rattle.zy_json.specs.Written.{IsInUtf8, json_text, with_name}
 
 -- four texts, one after the other
@@ -29,10 +29,10 @@ field name None plain p = IsUtf8-nil
 field name (Some text) plain p = IsUtf8-append name _ (IsUtf8-are_ascii name plain) (IsUtf8-quoted text p)
 
 -- a name and a value, if there is one
-value : (name : List ℕ) (came : Option (List ℕ)) (n : Option ℕ) → are_ascii name ≡ true → IfSome n (IsShown came) → IsUtf8 (behind name (digits_of n))
+value : (name : List ℕ) (came : Option (List ℕ)) (n : Option ℕ) → are_ascii name ≡ true → IfSome n (IsBesideDid came) → IsUtf8 (behind name (digits_of n))
 value name came None plain p = IsUtf8-nil
 value name came (Some n) plain p =
-    let few : n ≤ max_u32 = p.0 in
+    let few : n ≤ max_value = p.0 in
     IsUtf8-append name _ (IsUtf8-are_ascii name plain) (IsUtf8-from_ascii (decimal n) (IsAscii-decimal n (omega arith)))
 
 -- a step's line is UTF-8

@@ -9,14 +9,14 @@ use Rattle.std.proofs.lemmas.List.Elements.{filter-append, All-cons, All-filter,
 use Rattle.std.proofs.lemmas.List.Folds.{list_any-append}
 use Rattle.std.proofs.lemmas.List.Splits.{length-slice_split}
 use Rattle.zy_isa.proofs.ResultLemmas.{both}
-use Rattle.zy_isa.specs.Integers.{max_u32}
+use Rattle.zy_isa.specs.Limits.{max_value}
 use Rattle.zy_isa.specs.declared.node.Actor.{Actor}
 use Rattle.zy_isa.specs.declared.node.Actor.TheVariants.{C, A, B}
 use Rattle.zy_text.specs.Words.{is_space, is_word, lines_of, words_of, without_comment}
 use Rattle.zy_text.proofs.WordLemmas.{digits_of as all_digits, number_clean, split_spaced}
 use Rattle.zy_json.specs.Fields.{ends_part}
 use Rattle.zy_json.specs.Steps.{Step, actor_text, behind, digits_of, log_text}
-use Rattle.zy_json.specs.Words.{IsPart, IsLine, IsShown, signed, numeral, line_words}
+use Rattle.zy_json.specs.Words.{IsPart, IsLine, IsBesideDid, signed, numeral, line_words}
 use borrow.Author.Tests.{tests}
 
 -- ---- texts that lack a byte
@@ -116,15 +116,15 @@ digits_part (d ∷ ds) h = let p = both (is_ascii_digit d) (all_ascii_digits ds)
     digit_part : (d : ℕ) → is_ascii_digit d ≡ true → ends_part d ≡ false
     digit_part d h = grind (arith, tests)
 
-value_part : (came : Option (List ℕ)) (o : Option ℕ) → IfSome o (IsShown came) → IfSome (digits_of o) IsPart
+value_part : (came : Option (List ℕ)) (o : Option ℕ) → IfSome o (IsBesideDid came) → IfSome (digits_of o) IsPart
 value_part came None h = tt
-value_part came (Some n) h = let few : n ≤ max_u32 = h.0 in digits_part (decimal n) (all_digits n (omega arith))
+value_part came (Some n) h = let few : n ≤ max_value = h.0 in digits_part (decimal n) (all_digits n (omega arith))
 
-value_parted : (xs : List ℕ) (came : Option (List ℕ)) (o : Option ℕ) → IfSome o (IsShown came)
+value_parted : (xs : List ℕ) (came : Option (List ℕ)) (o : Option ℕ) → IfSome o (IsBesideDid came)
     → parted (xs ++ behind (codes " ") (digits_of o)) ≡ parted xs ++ numeral o
 value_parted xs came None h = ap parted (append-nil xs) ∙ sym (append-nil (parted xs))
 value_parted xs came (Some n) h =
-    let few : n ≤ max_u32 = h.0 in
+    let few : n ≤ max_value = h.0 in
     let clean = number_clean n (omega arith) in
     parted_space xs (decimal n) ∙ ap (λ (l : List (List ℕ)). parted xs ++ l) (split_spaced (decimal n ∷ []) (rw (clean.0, clean.1) refl))
 

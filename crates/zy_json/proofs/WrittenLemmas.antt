@@ -8,13 +8,13 @@ use Rattle.json.specs.Tree.{json_tokens, HasNumbers, MembersHaveNumbers, depth, 
 use Rattle.json.proofs.OnLiterals.{json_on_literals}
 use Rattle.json.proofs.Printed.Decimals.{IsNumber-decimal}
 use Rattle.json.proofs.Printed.Trees.{document-print}
-use Rattle.zy_isa.specs.Integers.{max_u32}
+use Rattle.zy_isa.specs.Limits.{max_value}
 use Rattle.zy_isa.specs.declared.node.Actor.{Actor}
 use Rattle.zy_json.specs.declared.field.Member.{Member}
 use Rattle.zy_json.specs.declared.field.Member.TheVariants as field
 use Rattle.zy_json.specs.Fields.{key_of}
 use Rattle.zy_json.specs.Steps.{Step, actor_text}
-use Rattle.zy_json.specs.Words.{IsLine, IsShown}
+use Rattle.zy_json.specs.Words.{IsLine, IsBesideDid}
 use Rattle.zy_json.specs.Written.{json_text}
 
 -- a member with the text, if there is one
@@ -59,10 +59,10 @@ some_flat f None ms h = h
 some_flat f (Some text) ms h = omega arith
 
 -- the digits of a value are a number, which nests nothing
-value_numbers : (came : Option (List ℕ)) (o : Option ℕ) (ms : Members) → IfSome o (IsShown came) → MembersHaveNumbers ms
+value_numbers : (came : Option (List ℕ)) (o : Option ℕ) (ms : Members) → IfSome o (IsBesideDid came) → MembersHaveNumbers ms
     → MembersHaveNumbers (value_member o ms)
 value_numbers came None ms p h = h
-value_numbers came (Some n) ms p h = let few : n ≤ max_u32 = p.0 in (IsNumber-decimal n (omega arith), h)
+value_numbers came (Some n) ms p h = let few : n ≤ max_value = p.0 in (IsNumber-decimal n (omega arith), h)
 
 value_flat : (o : Option ℕ) (ms : Members) → members_depth ms ≤ 0 → members_depth (value_member o ms) ≤ 0
 value_flat None ms h = h

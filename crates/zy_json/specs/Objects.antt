@@ -7,7 +7,7 @@ use Rattle.json.specs.Json.{Json, Members, no_members, member}
 use Rattle.json.specs.Find.{as_number, as_str}
 use Rattle.zy_isa.specs.declared.node.Actor.{Actor}
 use Rattle.zy_isa.specs.declared.node.Actor.TheVariants.{C, A, B}
-use Rattle.zy_isa.specs.Integers.{max_u32}
+use Rattle.zy_isa.specs.Limits.{max_value}
 use Rattle.zy_isa.specs.Results.{◌>>=◌}
 use Rattle.zy_text.specs.Words.{number_of}
 use Rattle.zy_json.specs.declared.faults.JsonFault.{JsonFault}
@@ -57,7 +57,7 @@ part_of f ms = text_of f ms >>= if_part f
 
 -- a number of 32 bits
 abbrev pub small : ℕ → Option ℕ
-small n = if nat_le n max_u32 then Some n else None
+small n = if nat_le n max_value then Some n else None
 
 -- the number that a value is: 1 to 10 digits, and nothing else
 abbrev pub number_in : Json → Option ℕ
@@ -83,8 +83,8 @@ if_did came None = Ok None
 if_did came (Some n) = if is_did came then Ok (Some n) else Err NotDid
 
 -- the number that a step shows, beside what came of it
-abbrev pub value_in : Option (List ℕ) → Members → Result (Option ℕ) JsonFault
-value_in came ms = number_told ms >>= if_did came
+abbrev pub value_beside : Option (List ℕ) → Members → Result (Option ℕ) JsonFault
+value_beside came ms = number_told ms >>= if_did came
 
 -- a field that has to be there
 abbrev pub present : Member → Option (List ℕ) → Result (List ℕ) JsonFault
@@ -111,6 +111,6 @@ step_in ms = do
   who ← actor_in ms
   what ← action_in ms
   came ← part_of field.Came ms
-  value ← value_in came ms
+  value ← value_beside came ms
   sent ← part_of field.Sent ms
   Ok (record { actor = who; action = what; came = came; value = value; sent = sent })

@@ -2,7 +2,7 @@
 use Rattle.std.specs.Prelude.{◌≡◌, ◌≤◌, ℕ, List, [], ◌∷◌, ◌++◌, codes, false, Option, Some, None, IfSome}
 use Rattle.std.specs.Fmt.{decimal}
 use Rattle.std.specs.List.{list_any}
-use Rattle.zy_isa.specs.Integers.{max_u32}
+use Rattle.zy_isa.specs.Limits.{max_value}
 use Rattle.zy_text.specs.Words.{words_of}
 use Rattle.zy_json.specs.Fields.{ends_part}
 use Rattle.zy_json.specs.Steps.{Step, actor_text}
@@ -12,14 +12,14 @@ abbrev pub IsPart : List ℕ → Type 0
 IsPart text = list_any ends_part text ≡ false
 
 -- a number of 32 bits, beside what came of the step that shows it: it did
-abbrev pub IsShown : Option (List ℕ) → ℕ → Type 0
-IsShown came n = (n ≤ max_u32) × (came ≡ Some (codes "did"))
+abbrev pub IsBesideDid : Option (List ℕ) → ℕ → Type 0
+IsBesideDid came n = (n ≤ max_value) × (came ≡ Some (codes "did"))
 
 -- the texts of a step are parts of a line, and its value is that of a step that did
 pub record IsLine (s : Step) : Type 0 where
   pub action : IsPart s.action
   pub came : IfSome s.came IsPart
-  pub value : IfSome s.value (IsShown s.came)
+  pub value : IfSome s.value (IsBesideDid s.came)
   pub sent : IfSome s.sent IsPart
 
 -- a sign and the words of a text; nothing, where there is no text

@@ -24,11 +24,11 @@ pub enum JsonFault {
     /// The value of this field is no string.
     #[error("the field {0} is no string; leave it out where there is nothing to tell")]
     NotString(Member),
-    /// The `value` is no number from 0 to 4294967295 in digits alone.
+    /// The `value` is not a number from 0 to 4294967295 written in digits alone.
     #[error("the field \"value\" is a whole number from 0 to 4294967295, as 7; leave it out where there is nothing to tell")]
     NotNumber,
-    /// There is a `value`, and what came of the step is not `did`.
-    #[error("the field \"value\" stands beside \"came\":\"did\" alone")]
+    /// There is a `value`, and the outcome is not `did`.
+    #[error("the field \"value\" is allowed only beside \"came\":\"did\"")]
     NotDid,
     /// The actor is none of the three.
     #[error("the field \"actor\" is \"C\", \"A\" or \"B\"")]

@@ -2,9 +2,9 @@
 ghost use Rattle.std.specs.Prelude.{option_map};
 ghost use Rattle.zy_json.specs.Plain.{plain_field, plain_fields, plain_text};
 
-use crate::step::{Behind, digits_of, letter};
+use crate::step::{Behind, letter};
 use std::alloc::AllocError;
-use zy_io::{Line, LineBuffer, joined};
+use zy_io::{Decimal, Line, LineBuffer, joined};
 use zy_isa::Actor;
 
 /// A step as a line of JSON, whose texts are made as they are written, without memory of their own. They stand there as they are:
@@ -74,7 +74,7 @@ impl<D: Line + Copy, C: Line + Copy, S: Line + Copy> Line for PlainFields<D, C, 
             step.action,
             b'"',
             PlainField(",\"came\":", step.came),
-            Behind(",\"value\":", digits_of(step.value)),
+            Behind(",\"value\":", step.value.map(Decimal)),
             PlainField(",\"sent\":", step.sent),
         )
         .append(line)

@@ -34,7 +34,7 @@ fn find<'v, 'a>(
 }
 
 /// The value of a field, if it is there.
-fn value_of<'v, 'a>(
+fn found<'v, 'a>(
     field: Member,
     members: &'v [(&'a str, Value<'a>)],
 ) -> Result<Option<&'v Value<'a>>, JsonFault>
@@ -56,7 +56,7 @@ fn text_of<'a>(
 ) -> Result<Option<&'a str>, JsonFault>
     ensures { texts_found result ≡ spec.text_of field (members_view members.now) }
 {
-    let Some(value) = value_of(field, members)? else {
+    let Some(value) = found(field, members)? else {
         return Ok(None);
     };
     match value.as_str() {
@@ -114,7 +114,7 @@ fn number_in(value: &Value<'_>) -> Option<u32>
 fn number_told<'a>(members: &[(&'a str, Value<'a>)]) -> Result<Option<u32>, JsonFault>
     ensures { result ≡ spec.number_told (members_view members.now) }
 {
-    let Some(value) = value_of(Member::Value, members)? else {
+    let Some(value) = found(Member::Value, members)? else {
         return Ok(None);
     };
     match number_in(value) {
@@ -123,7 +123,7 @@ fn number_told<'a>(members: &[(&'a str, Value<'a>)]) -> Result<Option<u32>, Json
     }
 }
 
-/// Whether what came of a step is that it did.
+/// Whether the outcome is `did`.
 fn is_did(came: Option<&str>) -> bool
     ensures { result ≡ spec.is_did (option_copied came.entry) }
 {
@@ -133,12 +133,12 @@ fn is_did(came: Option<&str>) -> bool
     }
 }
 
-/// The value that a step shows, beside what came of it.
-fn value_in<'a>(
+/// The value that a step shows, if its outcome is `did`.
+fn value_beside<'a>(
     came: Option<&str>,
     members: &[(&'a str, Value<'a>)],
 ) -> Result<Option<u32>, JsonFault>
-    ensures { result ≡ spec.value_in (option_copied came.entry) (members_view members.now) }
+    ensures { result ≡ spec.value_beside (option_copied came.entry) (members_view members.now) }
 {
     match number_told(members)? {
         Some(number) => {
@@ -191,7 +191,7 @@ fn step_in<'a>(members: &[(&'a str, Value<'a>)]) -> Result<JsonStep<'a>, JsonFau
     let actor = actor_in(members)?;
     let action = action_in(members)?;
     let came = part_of(Member::Came, members)?;
-    let value = value_in(came, members)?;
+    let value = value_beside(came, members)?;
     let sent = part_of(Member::Sent, members)?;
     Ok(JsonStep {
         actor,
@@ -235,8 +235,8 @@ fn fault_place(alloc: Global, line: &[u8]) -> Result<usize, AllocError>
 /// Reads a line of a log in JSON: one object with the fields `actor` and `do`, and with `came`, `value` and `sent` or without. Their
 /// order is free, and so is white space between the signs of JSON. A string may have escapes, and so may the name of a field.
 ///
-/// A `value` stands beside a `came` that is `did`. It is a number from 0 to 4294967295 in digits alone: one with a sign, a point or an
-/// exponent, as `7.0` or `7e0`, is rejected, also where it is whole.
+/// A `value` is allowed only beside a `came` that is `did`. It is a number from 0 to 4294967295 written in digits alone: `7.0`, `7e0`
+/// and `-0` are rejected.
 ///
 /// Other fields are passed over, whatever their values are and however often they come, since a store logs more, as a time. So a
 /// name that is misspelled is passed over, too. One of the five fields is rejected if it comes twice, and so is one that is `null`:

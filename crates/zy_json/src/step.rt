@@ -53,16 +53,6 @@ impl<T: Line + Copy> Line for Behind<'_, T> {
     }
 }
 
-/// The digits of a number, if there is one.
-pub(crate) fn digits_of(number: Option<u32>) -> Option<Decimal<u32>>
-    ensures { option_map (λ d. d.0) result ≡ number }
-{
-    match number {
-        Some(number) => Some(Decimal(number)),
-        None => None,
-    }
-}
-
 impl Line for LogText<'_> {
     ghost text = { λ t. log_text (step_of t.0) };
 
@@ -73,7 +63,7 @@ impl Line for LogText<'_> {
             b' ',
             step.action,
             Behind(" -> ", step.came),
-            Behind(" ", digits_of(step.value)),
+            Behind(" ", step.value.map(Decimal)),
             Behind(" ! ", step.sent),
         )
         .append(line)

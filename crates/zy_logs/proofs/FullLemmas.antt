@@ -41,7 +41,7 @@ use Rattle.zy_logs.specs.Words.{Word, Read, after, are_none, begin_with, end_out
 use Rattle.zy_logs.specs.Txns.{named}
 use Rattle.zy_logs.specs.Parts.{or_none, number, page, place, value, numbered, txn, node_at, reason}
 use Rattle.zy_logs.specs.Lines as line
-use Rattle.zy_logs.specs.Lines.{split, outcome_of, choice_of, possible, told_of, logged, is_did, value_of, message, sent_of, whole, gap_or_step, placed, line_of}
+use Rattle.zy_logs.specs.Lines.{split, outcome_of, choice_of, possible, told_of, logged, is_did, value_behind, message, sent_of, whole, gap_or_step, placed, line_of}
 use Rattle.zy_logs.specs.Possible.{can_give}
 use Rattle.zy_text.proofs.WordLemmas.{number_of-decimal, digits_of, decimal_some}
 
@@ -286,12 +286,12 @@ no_value false k = refl
 
 -- the value, which only `did` has
 value_given : (o : Outcome) (v : Option ℕ) (k : Option Kind) → IfSome v (λ n. (n ≤ max_value) × (o ≡ outcome.Did))
-    → value_of (Some (exactly o)) (value_words v ++ sent_words k) ≡ Ok (v, sent_words k)
+    → value_behind (Some (exactly o)) (value_words v ++ sent_words k) ≡ Ok (v, sent_words k)
 value_given o None k h = no_value (is_did (Some (exactly o))) k
 value_given o (Some n) k h =
     let rest = sent_words k in
     let few : n < 2 ^ 32 = omega (arith, h.0) in
-    ap (λ came. value_of (Some (exactly came)) (decimal n ∷ rest)) h.1
+    ap (λ came. value_behind (Some (exactly came)) (decimal n ∷ rest)) h.1
     ∙ given value (decimal n ∷ rest) rest n (goes_on (decimal n) rest (decimal_digits n few))
     (number_given max_value n (decimal n) rest (number_of-decimal n few) h.0)
 
@@ -304,7 +304,7 @@ whole_given txns o most named h can shown =
     let last : Choice → Option OutcomePattern → Option ℕ → Read (Option Kind) → Read LogLine = λ c t v r. r >>= λ k.
     if are_none k.1 then Ok (record { choice = c; told = t; value = v; sent = k.0 }, k.1) else refused expected.End k.1 in
     let third : Choice → Option OutcomePattern → Read (Option ℕ) → Read LogLine = λ c t r. r >>= λ v. last c t v.0 (sent_of v.1) in
-    let second : Choice → Read (Option OutcomePattern) → Read LogLine = λ c r. r >>= λ t. third c t.0 (value_of t.0 t.1) in
+    let second : Choice → Read (Option OutcomePattern) → Read LogLine = λ c r. r >>= λ t. third c t.0 (value_behind t.0 t.1) in
     let all : Read Choice → Read LogLine = λ r. r >>= λ c. second c.0 (told_of txns c.0 c.1) in
     let rest = value_words o.value ++ sent_words e.sent in
     ap all (choice_given txns e.choice (codes "->" ∷ (outcome_words e.outcome ++ rest)) most named)

@@ -27,7 +27,7 @@ use Rattle.zy_logs.specs.Words.{Word, Read, first, after, are_none, begin_with, 
 use Rattle.zy_logs.specs.Txns.{below}
 use Rattle.zy_text.specs.Names.{place_among}
 use Rattle.zy_logs.specs.Parts.{txn}
-use Rattle.zy_logs.specs.Lines.{client_choice, node_choice, choice_of, told_of, value_of, sent_of, whole, whose, gap_end, gap, gap_or_step, placed, line_of}
+use Rattle.zy_logs.specs.Lines.{client_choice, node_choice, choice_of, told_of, value_behind, sent_of, whole, whose, gap_end, gap, gap_or_step, placed, line_of}
 use Rattle.zy_logs.specs.Logs.{in_line, steps_of, steps_in, fitting, line_at, listed, joined, lines_from, logs_of, choices_of}
 
 -- ---- the number of a transaction
@@ -142,12 +142,12 @@ named_value count c t (Ok v) e = named_sent count c t v.0 (sent_of v.1) e
 named_value count c t (Err s) e = tt
 
 named_told : (count : ℕ) (c : Choice) (r : Read (Option OutcomePattern)) → names_below count c ≡ true
-    → ReadNamed count (r >>= λ t. value_of t.0 t.1 >>= λ v. sent_of v.1 >>= ended c t.0 v.0)
-named_told count c (Ok t) e = named_value count c t.0 (value_of t.0 t.1) e
+    → ReadNamed count (r >>= λ t. value_behind t.0 t.1 >>= λ v. sent_of v.1 >>= ended c t.0 v.0)
+named_told count c (Ok t) e = named_value count c t.0 (value_behind t.0 t.1) e
 named_told count c (Err s) e = tt
 
 named_whole : (txns : Txns) (r : Read Choice) → Named txns.count r
-    → ReadNamed txns.count (r >>= λ c. told_of txns c.0 c.1 >>= λ t. value_of t.0 t.1 >>= λ v. sent_of v.1 >>= ended c.0 t.0 v.0)
+    → ReadNamed txns.count (r >>= λ c. told_of txns c.0 c.1 >>= λ t. value_behind t.0 t.1 >>= λ v. sent_of v.1 >>= ended c.0 t.0 v.0)
 named_whole txns (Ok c) e = named_told txns.count c.0 (told_of txns c.0 c.1) e
 named_whole txns (Err s) e = tt
 

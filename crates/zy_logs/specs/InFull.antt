@@ -48,11 +48,11 @@ IsTold count (outcome.Active t) = t < count
 IsTold count (outcome.Pushed p) = IsPage p
 IsTold count o = Unit {0}
 
--- a line may have the value: it stands beside `did`, and is not too large
+-- a line may tell the value: the outcome is `did`, and the value is not too large
 abbrev pub IsShown : Observation → Type 0
 IsShown o = IfSome o.value (λ v. (v ≤ max_value) × (o.entry.outcome ≡ outcome.Did))
 
--- each register of each transaction holds a value that a line may have
+-- each register of each transaction holds a value that a line may tell
 abbrev pub HoldValues : State → Type 0
 HoldValues s = (t : ℕ) → (r : Reg) → reg (txn_of s t).regs r ≤ max_value
 

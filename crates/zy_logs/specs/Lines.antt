@@ -102,14 +102,14 @@ told_of txns c ws =
     if end_outcome ws then Ok (None, ws) else
     refused expected.AfterChoice ws
 
--- `did` is told
+-- a line tells `did`
 abbrev pub is_did : Option OutcomePattern → Bool
 is_did (Some pattern.Did) = true
 is_did t = false
 
 -- [ V ], after `did` alone
-abbrev pub value_of : Option OutcomePattern → List Word → Read (Option ℕ)
-value_of t ws = if is_did t then or_none value ws else Ok (None, ws)
+abbrev pub value_behind : Option OutcomePattern → List Word → Read (Option ℕ)
+value_behind t ws = if is_did t then or_none value ws else Ok (None, ws)
 
 -- KIND, after `!`
 abbrev pub message : List Word → Read (Option Kind)
@@ -127,7 +127,7 @@ abbrev pub whole : Txns → List Word → Read LogLine
 whole txns ws = do
   c ← choice_of txns ws
   t ← told_of txns c.0 c.1
-  v ← value_of t.0 t.1
+  v ← value_behind t.0 t.1
   k ← sent_of v.1
   if are_none k.1 then Ok (record { choice = c.0; told = t.0; value = v.0; sent = k.0 }, k.1) else refused expected.End k.1
 

@@ -35,8 +35,8 @@ pub fn steps_are_possible()
         → can_give c told ≡ true }
 {}
 
-/// A step shows a value beside `did` alone, and it is one that a line may have, where the registers that the step leaves hold such
-/// values.
+/// Only a step whose outcome is `did` shows a value. A line may tell it, if each register holds a value that a line may tell after the
+/// step.
 pub fn values_are_shown()
     ensures { (sc : AScenario) → (c : AChoice) → (s : State) → HoldValues (step sc c s).after → IsShown (observation_at sc s c) }
 {}

@@ -11,15 +11,15 @@ use zy_patterns::OutcomePattern;
 use zy_patterns::patterns::matches;
 use zy_table::{Observation, Outcome};
 
-/// A line of a log: a choice that was made, and what was logged of its outcome, of the value that its step set or wrote, and of the
-/// message that was sent, if anything was. What it does not tell may be any: no line says that no message was sent.
+/// A line of a log: a choice, and what was logged of its step. A part that was not logged may be any: no line says that its step sent
+/// no message.
 #[derive(Clone, Copy)]
 pub struct LogLine {
     /// The choice.
     pub choice: Choice,
     /// What was logged of the outcome of its step, if anything was.
     pub told: Option<OutcomePattern>,
-    /// The value that its step set or wrote, if it was logged.
+    /// The value that its step shows, if it was logged.
     pub value: Option<u32>,
     /// The kind of message that its step sent, if it was logged.
     pub sent: Option<Kind>,
@@ -44,7 +44,7 @@ fn is_outcome(told: Option<OutcomePattern>, came: Outcome) -> bool
     }
 }
 
-/// Whether the logged value came, if one was logged.
+/// Whether a step shows the logged value, if one was logged.
 fn is_value(logged: Option<u32>, came: Option<u32>) -> bool
     ensures { Decides result (IfSome logged (λ v. came ≡ Some v)) }
 {
@@ -77,8 +77,7 @@ impl Logged {
 }
 
 impl LogLine {
-    /// Whether the line agrees with what a step shows: what it tells of the outcome, of the value and of the message is what
-    /// came.
+    /// Whether the line agrees with what a step shows: each of outcome, value and message that it tells is the step's.
     pub fn agrees(&self, observation: &Observation) -> bool
         ensures { Decides result (Agrees self.now observation.now) }
     {

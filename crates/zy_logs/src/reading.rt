@@ -67,16 +67,16 @@ fn told<'a>(txns: Txns<'a>, choice: Choice, at: LogCursor<'a>) -> Parsed<'a, Opt
     }
 }
 
-/// Whether `did` is told.
+/// Whether a line tells `did`.
 fn is_did(told: Option<OutcomePattern>) -> bool
     ensures { result ≡ spec.is_did told }
 {
     matches!(told, Some(OutcomePattern::Did))
 }
 
-/// The value, if it was logged, which it may be behind `did` alone.
-fn value<'a>(told: Option<OutcomePattern>, at: LogCursor<'a>) -> Parsed<'a, Option<u32>>
-    ensures { read result ≡ spec.value_of told (left at.entry) }
+/// The value behind `did`, if it was logged; no other outcome has one.
+fn value_behind<'a>(told: Option<OutcomePattern>, at: LogCursor<'a>) -> Parsed<'a, Option<u32>>
+    ensures { read result ≡ spec.value_behind told (left at.entry) }
 {
     if is_did(told) {
         value_or_none(at)
@@ -113,7 +113,7 @@ fn whole<'a>(txns: Txns<'a>, at: LogCursor<'a>) -> Parsed<'a, LogLine>
 {
     let (choice, at) = choice(txns, at)?;
     let (told, at) = told(txns, choice, at)?;
-    let (value, at) = value(told, at)?;
+    let (value, at) = value_behind(told, at)?;
     let (sent, at) = sent(at)?;
     if !at.is_end() {
         return Err(at.refuses(ExpectedInLog::End));

@@ -67,8 +67,8 @@ fn next_alone(logs: &Logs, cursors: Cursors, node: Node) -> Option<LogLine>
 }
 
 impl Search {
-    /// Follows the next line of a node where the path at a place leads, if it may be followed alone and fits. If it does not, the
-    /// machine stays there.
+    /// Follows a node's next line from the path at a place, if the line may be followed alone and fits. Otherwise the machine stays
+    /// there.
     fn follow_of(
         &mut self,
         plan: &Plan,
@@ -89,8 +89,8 @@ impl Search {
         self.meet_in_place(plan, at, machine, Actor::of(node), &line)
     }
 
-    /// Follows the next line of A where the path at a place leads, if it may be followed alone and fits, or else that of B. If
-    /// neither does, the machine stays there.
+    /// Follows the next line of A from the path at a place, if it may be followed alone and fits, or else that of B. Otherwise the
+    /// machine stays there.
     pub(crate) fn follow_alone(
         &mut self,
         plan: &Plan,

@@ -26,8 +26,8 @@ pub(crate) enum Met {
 }
 
 impl Search {
-    /// Keeps where the twin is, which has made the choice of an actor's next line where the path at a place leads, if the line
-    /// agrees with what this step shows.
+    /// The twin has made the choice of an actor's next line where the path at a place leads. If the line agrees with what that step
+    /// shows, the search keeps where the twin is.
     fn meet_shown(
         &mut self,
         plan: &Plan,
@@ -72,7 +72,7 @@ impl Search {
         self.meet_shown(here.plan, here.at, actor, line, &shown)
     }
 
-    /// The same with the machine itself, which becomes the twin: no copy is made. Where the line does not fit, it goes back.
+    /// Does the same without a copy: the machine itself makes the choice, as the twin. If the line does not fit, the machine goes back.
     pub(crate) fn meet_in_place(
         &mut self,
         plan: &Plan,

@@ -24,7 +24,7 @@ impl PlacedMachine {
         })
     }
 
-    /// Gives the machine for another one, of which no place is known.
+    /// Swaps the machine with another one, whose place is not known.
     pub(crate) fn swap(&mut self, other: &mut Machine)
         ensures taken { self.new ≡ record { machine = other.old; at = None } }
         ensures given { other.new ≡ self.old.machine }

@@ -117,8 +117,8 @@ impl<'a> Furthest<'a> {
         None
     }
 
-    /// What the step shows that comes of the choice of a line that does not fit: another value once its transaction has begun, if only
-    /// its begin is wanting, and else what comes at its end.
+    /// What the table gives in place of a line that does not fit. If the line tells a wrong value and only lacks the begin of its
+    /// transaction, this is the step after the begin; otherwise it is the step at the end of the order.
     fn instead(&self, alloc: Global, line: LogLine) -> Result<Option<Observation>, Fault> {
         let value = self.other_value(alloc, line)?;
         if value.is_some() {
@@ -130,8 +130,8 @@ impl<'a> Furthest<'a> {
         shown
     }
 
-    /// What the step of a line shows that tells a value, if its transaction begins by lines of the client that are left, and its
-    /// value is then another one. None where a gap may stand for its begin.
+    /// The step of a line that tells a wrong value, once the client's remaining lines have begun its transaction. None if they do not
+    /// begin it, if the value is right then, or if a gap may stand for the begin.
     fn other_value(&self, alloc: Global, line: LogLine) -> Result<Option<Observation>, Fault> {
         let Choice::Run(_, t) = line.choice else {
             return Ok(None);
@@ -145,14 +145,15 @@ impl<'a> Furthest<'a> {
         shown
     }
 
-    /// Whether steps of an actor may be missing.
+    /// Whether a log has a gap.
     fn has_gap(&self) -> bool {
         self.lines
             .iter()
             .any(|line| matches!(line.logged, Logged::Gap(_)))
     }
 
-    /// The same on a machine that is at its end: a furthest order takes no more lines of the client than it needs.
+    /// The same on a machine at the end of the order. A furthest order takes as few lines of the client as it can, so the begin may be
+    /// among those that remain.
     fn once_begun(
         &self,
         machine: &mut Machine,
@@ -297,8 +298,7 @@ fn told_bytes(logs: LogFormat, input: &[u8], number: usize) -> &[u8] {
     }
 }
 
-/// Makes the choice of a line on a machine, if it may be made there, and returns what its step shows where the line does not agree
-/// with it.
+/// Makes the choice of a line on a machine, if it may be made there. Returns the step if it does not agree with the line.
 fn disagreeing(machine: &mut Machine, line: LogLine) -> Result<Option<Observation>, Fault> {
     let count = machine.scenario().programs().len();
     if !line.choice.names_below(count) || MAX_CHOICES <= machine.len() {
@@ -311,7 +311,7 @@ fn disagreeing(machine: &mut Machine, line: LogLine) -> Result<Option<Observatio
     Ok(Some(shown))
 }
 
-/// What the step of a line shows on a machine, where it did its instruction and does not agree with the line.
+/// Makes the choice of a line on a machine. Returns the step if it did its instruction and does not agree with the line.
 fn did_otherwise(machine: &mut Machine, line: LogLine) -> Result<Option<Observation>, Fault> {
     match disagreeing(machine, line)? {
         Some(shown) => match shown.entry.outcome {

@@ -12,16 +12,14 @@ use Rattle.zy_isa.specs.declared.choice.Choice.TheVariants.{Start}
 use Rattle.zy_isa.specs.Scenario.{Scenario, IsScenario}
 use Rattle.zy_text.specs.Canon.{canon}
 use Rattle.zy_table.specs.State.{State}
-use Rattle.zy_table.specs.Observations.{observation_at, observations}
 use Rattle.zy_table.specs.Play.{step, opening, play, entries}
 use Rattle.zy_laws.specs.Counts.{Safe}
 use Rattle.zy_laws.proofs.walk.PlayPush.{play-push, entries-push, length-entries}
 use Rattle.zy_machine.specs.Histories.{History, IsReplay, choices_of}
 use Rattle.zy_serial.specs.SameMaps.{is_serial}
 use Rattle.zy_trace.specs.declared.form.StepForm.{StepForm}
-use Rattle.zy_trace.specs.declared.form.StepForm.TheVariants.{Lines, Object}
+use Rattle.zy_trace.specs.declared.form.StepForm.TheVariants.{Lines}
 use Rattle.zy_trace.specs.declared.subject.Subject.{Subject}
-use Rattle.zy_trace.specs.Objects.{object_text}
 use Rattle.zy_trace.specs.Steps.{end_text, next_lines, ran, with_next}
 use Rattle.zy_trace.specs.Subjects.{line_in, inset, lines_of_subject, state_lines, subjects}
 use Rattle.zy_trace.specs.Trace.{step_lines, steps_lines, opening_lines, last_lines, trace, trace_from}
@@ -88,11 +86,6 @@ steps-blocks form sc i s (c ∷ cs) =
     let t = (step sc c s).after in
     flat_map-append line_of (step_lines form sc i s c) (steps_lines form sc (i + 1) t cs)
     ∙ ap (λ l. flat_map line_of (step_lines form sc i s c) ++ l) (steps-blocks form sc (i + 1) t cs)
-
--- without the lines that they changed they are the objects of what is shown
-pub objects-shown : (sc : Scenario) (i : ℕ) (s : State) (cs : List Choice) → steps_lines Object sc i s cs ≡ map object_text (observations sc s cs)
-objects-shown sc i s [] = refl
-objects-shown sc i s (c ∷ cs) = ap (λ l. object_text (observation_at sc s c) ∷ l) (objects-shown sc (i + 1) (step sc c s).after cs)
 
 -- there is one for each choice
 pub length-blocks : (form : StepForm) (sc : Scenario) (i : ℕ) (s : State) (cs : List Choice) → length (blocks form sc i s cs) ≡ length cs

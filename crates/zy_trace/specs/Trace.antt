@@ -7,7 +7,7 @@ use Rattle.zy_isa.specs.Scenario.{Scenario}
 use Rattle.zy_io.specs.Writing.{line_of}
 use Rattle.zy_table.specs.State.{State}
 use Rattle.zy_table.specs.declared.observation.Observation.{Observation}
-use Rattle.zy_table.specs.Observations.{observation_at, observations}
+use Rattle.zy_table.specs.Observations.{observation_at}
 use Rattle.zy_table.specs.Play.{play, opening, step}
 use Rattle.zy_listing.specs.Texts.{step_text, serial_text}
 use Rattle.zy_listing.specs.Listing.{final_texts}
@@ -50,14 +50,6 @@ trace_from sc t = canon sc ++ flat_map line_of (trace_lines sc t (is_serial sc t
 abbrev pub trace : Scenario → List ℕ
 trace sc = trace_from sc (play sc (opening sc) sc.choices)
 
--- the steps of a run, each as one object
-abbrev pub step_objects : Scenario → List ℕ
-step_objects sc = flat_map line_of (map object_text (observations sc (opening sc) sc.choices))
-
 -- the steps of a run in this form
 abbrev pub steps_text : StepForm → Scenario → List ℕ
 steps_text form sc = flat_map line_of (steps_lines form sc 1 (opening sc) sc.choices)
-
--- the steps of the trace alone, each as one object
-abbrev pub traced_objects : Scenario → List ℕ
-traced_objects = steps_text TracedObject

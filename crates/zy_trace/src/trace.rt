@@ -7,7 +7,7 @@ ghost use Rattle.zy_table.specs.Play.{opening};
 ghost use Rattle.zy_trace.specs.Subjects.{inset, state_lines};
 ghost use Rattle.zy_text.specs.Canon.{canon};
 ghost use Rattle.zy_trace.specs.declared.form.StepForm.TheVariants.{Lines};
-ghost use Rattle.zy_trace.specs.Trace.{opening_lines, step_objects, steps_text, traced_objects};
+ghost use Rattle.zy_trace.specs.Trace.{opening_lines, steps_text};
 ghost use Rattle.zy_trace.specs.Trace as spec;
 ghost use Rattle.zy_trace.specs.Steps.{end_text, next_lines, ran, with_next};
 
@@ -216,7 +216,7 @@ pub fn write_trace<K: Sink>(
 }
 
 /// Makes the choices of a scenario, writes each step in this form, and returns the machine that has made them.
-fn write_each<K: Sink>(
+pub fn write_each_step<K: Sink>(
     form: StepForm,
     alloc: Global,
     scenario: Scenario,
@@ -236,29 +236,4 @@ fn write_each<K: Sink>(
             Err(fault)
         }
     }
-}
-
-/// Makes the choices of a scenario, writes what each step shows as one object, and returns the machine that has made them.
-pub fn write_objects<K: Sink>(
-    alloc: Global,
-    scenario: Scenario,
-    sink: &mut K,
-) -> Result<Machine, TextFault>
-    requires { (K.sent sink.old).failures < u64.MAX }
-    ensures { WroteRun step_objects scenario (K.sent sink.old) (K.sent sink.new) result }
-{
-    write_each(StepForm::Object, alloc, scenario, sink)
-}
-
-/// Makes the choices of a scenario, writes each step as one object with the lines that it changed, and returns the machine that has
-/// made them.
-pub fn write_traced_objects<K: Sink>(
-    alloc: Global,
-    scenario: Scenario,
-    sink: &mut K,
-) -> Result<Machine, TextFault>
-    requires { (K.sent sink.old).failures < u64.MAX }
-    ensures { WroteRun traced_objects scenario (K.sent sink.old) (K.sent sink.new) result }
-{
-    write_each(StepForm::TracedObject, alloc, scenario, sink)
 }
