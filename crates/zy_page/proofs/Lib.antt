@@ -1,3 +1,4 @@
 pub mod Found
 pub mod Parted
 pub mod Cells
+pub mod Padded

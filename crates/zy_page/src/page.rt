@@ -10,10 +10,10 @@ use std::marker::Model;
 use zy_isa::{MAX_CAP, Row};
 
 /// The most rows of a page.
-const ROOM: usize = MAX_CAP as usize;
+pub(crate) const ROOM: usize = MAX_CAP as usize;
 
 /// What a place without a row has.
-const BLANK: Row = Row { key: 0, value: 0 };
+pub(crate) const BLANK: Row = Row { key: 0, value: 0 };
 
 /// A leaf page. Its rows lie in the page itself, which has a place for each that a scenario lets a page have: nothing
 /// that is done with it takes memory.

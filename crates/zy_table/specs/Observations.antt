@@ -1,19 +1,24 @@
--- What a step shows: what came of its choice, and the value that its instruction set or wrote.
+-- What a step shows: what came of its choice, the value of its instruction, the rows of the page that it moved, and where a choice of the
+-- client took place.
 use Rattle.std.specs.Prelude.{ℕ, List, [], ◌∷◌, Option, Some, None, slice_get}
 use Rattle.std.specs.Option.{option_map, option_and_then}
 use Rattle.zy_isa.specs.declared.instr.Instr.{Instr}
 use Rattle.zy_isa.specs.declared.instr.Instr.TheVariants.{Set, Read, Write, Insert, Add, Sum, Beq, Commit, Abort}
 use Rattle.zy_isa.specs.declared.instr.Reg.{Reg}
 use Rattle.zy_isa.specs.declared.choice.Choice.{Choice}
-use Rattle.zy_isa.specs.declared.choice.Choice.TheVariants.{Run}
+use Rattle.zy_isa.specs.declared.choice.Choice.TheVariants.{Start, Begin, Kill, Run}
+use Rattle.zy_isa.specs.declared.node.Node.{Node}
+use Rattle.zy_isa.specs.declared.row.Row.{Row}
 use Rattle.zy_isa.specs.Scenario.{Scenario}
 use Rattle.zy_table.specs.declared.observation.Observation.{Observation}
 use Rattle.zy_table.specs.declared.outcome.Outcome.{Outcome}
-use Rattle.zy_table.specs.declared.outcome.Outcome.TheVariants.{Did}
+use Rattle.zy_table.specs.declared.outcome.Outcome.TheVariants.{Started, Began, Did, Aborted, GotPull, GotPage, Pushed}
 use Rattle.zy_table.specs.State.{State, Txn}
 use Rattle.zy_table.specs.Change.{reg, txn_or}
 use Rattle.zy_table.specs.Run.{program_of}
-use Rattle.zy_table.specs.Play.{step, entry_of}
+use Rattle.zy_table.specs.Database.{all_leaves}
+use Rattle.zy_table.specs.Pages.{rows_of}
+use Rattle.zy_table.specs.Play.{step, side_of, entry_of}
 
 -- the register that an instruction shows: the one that it sets, or whose value it writes
 abbrev pub shown_register : Instr → Option Reg
@@ -50,9 +55,34 @@ value_after c s o r = None
 abbrev pub value_of : Scenario → State → Choice → Option ℕ
 value_of sc s c = let x = step sc c s in value_after c x.after x.outcome (register_of sc s c)
 
+-- the page that a step moved: the one that it sent or took
+abbrev pub moved_page : Outcome → Option ℕ
+moved_page (GotPull p) = Some p
+moved_page (GotPage p) = Some p
+moved_page (Pushed p) = Some p
+moved_page o = None
+
+-- the rows of that page where the step led, wherever it is then
+abbrev pub rows_after : State → Outcome → Option (List Row)
+rows_after s o = option_map (rows_of (all_leaves s)) (moved_page o)
+
+-- the node at which a choice of the client took place, which was made from this side: none, if it changed nothing
+abbrev pub client_node : Choice → Node → Outcome → Option Node
+client_node Start side Started = Some side
+client_node (Begin t) side (Began n) = Some n
+client_node (Kill t) side (Aborted w) = Some side
+client_node c side o = None
+
 -- what the step of a choice shows
 abbrev pub observation_at : Scenario → State → Choice → Observation
-observation_at sc s c = record { entry = entry_of c (step sc c s); value = value_of sc s c }
+observation_at sc s c =
+    let x = step sc c s in
+    record {
+      entry = entry_of c x;
+      value = value_of sc s c;
+      rows = rows_after x.after x.outcome;
+      node = client_node c (side_of sc c s) x.outcome;
+    }
 
 -- what the step of each choice shows
 abbrev pub observations : Scenario → State → List Choice → List Observation
