@@ -1,5 +1,5 @@
 -- A run whose outcome is `did` may come first.
-use Rattle.std.proofs.Common.{◌≡◌, ◌∙◌, ℕ, List, [], ◌∷◌, inl, inr, length, refl, sym, ap, subst, true, None, Option}
+use Rattle.std.proofs.Common.{◌≡◌, ◌∙◌, ℕ, List, [], ◌∷◌, inl, inr, length, refl, sym, ap, subst, true, None}
 use Rattle.std.proofs.lemmas.Bool.{false≢true}
 use Rattle.zy_isa.specs.declared.node.Node.{Node}
 use Rattle.zy_isa.specs.declared.node.Node.TheVariants.{A, B}
@@ -8,7 +8,6 @@ use Rattle.zy_isa.specs.declared.choice.Choice.TheVariants.{Start, Kill, Run}
 use Rattle.zy_isa.specs.Scenario.{Scenario}
 use Rattle.zy_model.specs.declared.lock.Lock.{Lock}
 use Rattle.zy_model.specs.Order.{LocksRise}
-use Rattle.zy_table.specs.declared.entry.Entry.{Entry}
 use Rattle.zy_table.specs.declared.outcome.Outcome.TheVariants.{Did}
 use Rattle.zy_table.specs.State.{State, NodeState, Step, Txn, facing, as_step}
 use Rattle.zy_table.specs.Change.{txn_at}
@@ -16,14 +15,15 @@ use Rattle.zy_table.specs.Client.{is_active}
 use Rattle.zy_isa.specs.Choices.{actor_of, actor_at}
 use Rattle.zy_table.specs.Play.{move, step, side_of, play, entry_of}
 use Rattle.zy_table.specs.declared.observation.Observation.{Observation}
-use Rattle.zy_table.specs.Observations.{txn_of, value_of, observation_at, observations}
+use Rattle.zy_table.specs.Observations.{txn_of, observation_at, observations}
 use Rattle.zy_steps.proofs.Rest.{step_leaves}
 use Rattle.zy_steps.specs.Commute.{Does, AreOfOthers, MayComeFirst}
 use Rattle.zy_steps.proofs.SetTwo.{Stays}
 use Rattle.zy_steps.proofs.DidRuns.{moded, relocked, did_went, stands}
 use Rattle.zy_steps.proofs.Carried.{carried}
 use Rattle.zy_steps.proofs.SameValues.{of_view, same_value}
-use Rattle.zy_steps.proofs.FarValues.{moved_self, far_value}
+use Rattle.zy_steps.proofs.FarValues.{moved_self}
+use Rattle.zy_steps.proofs.SameObservations.{rows_in, same_observation, far_observation}
 use Rattle.zy_steps.proofs.Unseen.{which, all_hide, killed_for_good}
 use Rattle.zy_steps.proofs.Passes.{Passes, IsApart, IsSettled, has_begun, moved, apart_passes}
 
@@ -120,19 +120,15 @@ module _ (sc : Scenario) (n : Node) (t : ℕ) where
       ∙ (moved_self n t k.txn k.others r (active_where r k.does)
       ∙ (sym (moved_self n t k.txn k.locks s (active_where s does)) ∙ sym (ap (λ (x : Step). txn_of x.after t) k.first))) in
       let value = same_value sc n t r s k.same (ap (λ (x : Step). x.outcome) k.second ∙ sym (ap (λ (x : Step). x.outcome) k.first)) after in
-      ap (λ (v : Option ℕ). record { entry = entry_of (Run n t) (step sc (Run n t) r); value = v }) value
-      ∙ ap (λ (e : Entry). record { entry = e; value = value_of sc s (Run n t) })
-      (ap (entry_of (Run n t)) k.second ∙ sym (ap (entry_of (Run n t)) k.first))
+      same_observation sc (Run n t) r s (ap (entry_of (Run n t)) k.second ∙ sym (ap (entry_of (Run n t)) k.first)) value
+      (ap rows_in k.second ∙ sym (ap rows_in k.first)) refl
 
   -- so does the choice
   other_same : (s : State) (c : Choice) → Does sc n t s → (actor_of c ≡ actor_at n → ⊥) → Twice sc n t s c
       → observation_at sc (step sc (Run n t) s).after c ≡ observation_at sc s c
   other_same s c does far k =
-      let there = moved n t k.txn k.locks s in
       ap (λ (x : Step). observation_at sc x.after c) k.first
-      ∙ (ap (λ (x : Step). record { entry = entry_of c x; value = value_of sc there c }) k.other
-      ∙ ap (λ (v : Option ℕ). record { entry = entry_of c (step sc c s); value = v })
-      (far_value sc n t k.txn k.txn k.locks k.others s c (does_settled s does) far k.other))
+      ∙ far_observation sc n t k.txn k.txn k.locks k.others s c k.stays (does_settled s does) far k.other
 
   -- many may
   comes_first : (s : State) (cs : List Choice) → Does sc n t s → AreOfOthers n cs → AreApart n t cs → MayComeFirst sc s (Run n t) cs

@@ -30,7 +30,7 @@ same_nodes B B e = refl
 
 module _ (n : Node) (t : ℕ) (y : Txn) (ls : List Lock) (s : State) where
   -- t is set, and no other transaction
-  set_txns : (facing n (moved n t y ls s)).txns ≡ slice_set (facing n s).txns t y
+  pub set_txns : (facing n (moved n t y ls s)).txns ≡ slice_set (facing n s).txns t y
   set_txns = by_node n where
     by_node : (k : Node) → (facing k (moved k t y ls s)).txns ≡ slice_set (facing k s).txns t y
     by_node A = refl

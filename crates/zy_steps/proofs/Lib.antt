@@ -16,5 +16,6 @@ pub mod Asides
 pub mod Passes
 pub mod SameValues
 pub mod FarValues
+pub mod SameObservations
 pub mod Unseen
 pub mod Commuting

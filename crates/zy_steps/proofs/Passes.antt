@@ -170,7 +170,7 @@ moved_far_mode A t y ls s = refl
 moved_far_mode B t y ls s = refl
 
 -- a start is made from the side that it was made from
-start_side : (sc : Scenario) (n : Node) (t : ℕ) (y : Txn) (ls : List Lock) (s : State) → side_of sc Start (moved n t y ls s) ≡ side_of sc Start s
+pub start_side : (sc : Scenario) (n : Node) (t : ℕ) (y : Txn) (ls : List Lock) (s : State) → side_of sc Start (moved n t y ls s) ≡ side_of sc Start s
 start_side sc A t y ls s = refl
 start_side sc B t y ls s = refl
 

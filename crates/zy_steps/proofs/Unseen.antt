@@ -1,5 +1,5 @@
 -- What a node's run did is seen by no other actor, even where the client kills its transaction.
-use Rattle.std.proofs.Common.{◌≡◌, ◌∙◌, ◌⊎◌, inl, inr, ℕ, List, [], ◌∷◌, refl, sym, ap, subst, true, false, None, Option}
+use Rattle.std.proofs.Common.{◌≡◌, ◌∙◌, ◌⊎◌, inl, inr, ℕ, List, [], ◌∷◌, refl, sym, ap, subst, true, false, None}
 use Rattle.std.proofs.lemmas.Bool.{cases_Bool, cases_eq, false≢true}
 use Rattle.zy_isa.specs.declared.node.Node.{Node}
 use Rattle.zy_isa.specs.declared.node.Node.TheVariants.{A, B}
@@ -18,14 +18,15 @@ use Rattle.zy_table.specs.State.{State, View, Step, Txn, facing, other, as_step}
 use Rattle.zy_table.specs.Change.{quiet, txn_at, aborted}
 use Rattle.zy_table.specs.Client.{is_active, is_new, kill_step}
 use Rattle.zy_table.specs.Run.{same_node}
-use Rattle.zy_table.specs.Play.{move, step, side_of, play, entry_of}
-use Rattle.zy_table.specs.Observations.{value_of, observation_at, observations}
+use Rattle.zy_table.specs.Play.{move, step, side_of, play}
+use Rattle.zy_table.specs.Observations.{observation_at, observations}
 use Rattle.zy_laws.proofs.walk.Txns.{at_self, at_side}
 use Rattle.zy_steps.proofs.Rest.{face}
 use Rattle.zy_steps.specs.Commute.{AreOfOthers}
 use Rattle.zy_steps.proofs.DidRuns.{put, relocked}
 use Rattle.zy_steps.proofs.SetTwo.{Stays, set_twice}
-use Rattle.zy_steps.proofs.FarValues.{same_nodes, far_value}
+use Rattle.zy_steps.proofs.FarValues.{same_nodes}
+use Rattle.zy_steps.proofs.SameObservations.{far_observation}
 use Rattle.zy_steps.proofs.Passes.{Passes, IsApart, IsSettled, moved, moved_step, apart_passes, still_passes, near_view, near_state}
 
 -- ---- which choices there are
@@ -174,10 +175,7 @@ module _ (sc : Scenario) (n : Node) (t : ℕ) where
       let h = each_hides s y ls c stays settled far.0 in
       let r = (step sc c s).after in
       let there = moved n t y ls s in
-      let value = far_value sc n t y h.txn ls h.locks s c settled far.0 h.step in
-      let first : observation_at sc there c ≡ observation_at sc s c =
-      ap (λ (x : Step). record { entry = entry_of c x; value = value_of sc there c }) h.step
-      ∙ ap (λ (v : Option ℕ). record { entry = entry_of c (step sc c s); value = v }) value in
+      let first = far_observation sc n t y h.txn ls h.locks s c stays settled far.0 h.step in
       ap (λ (o : Observation). o ∷ observations sc (step sc c there).after cs) first
       ∙ (ap (λ (x : Step). observation_at sc s c ∷ observations sc x.after cs) h.step
       ∙ ap (λ (os : List Observation). observation_at sc s c ∷ os) (all_hide r h.txn h.locks cs h.stays h.settled far.1))
