@@ -1,7 +1,7 @@
 -- The transactions of a machine, and the instruction that one does next.
-use Rattle.std.proofs.Common.{◌≡◌, ◌∙◌, ◌<◌, ◌≤◌, List, length, sym, ap, subst, arith, ℕ, true, None, slice_index_or}
+use Rattle.std.proofs.Common.{◌≡◌, ◌∙◌, ◌<◌, ◌≤◌, List, length, sym, ap, subst, arith, ℕ, true, None, Some, slice_index_or}
 use Rattle.std.specs.Prelude.{slice_get}
-use Rattle.std.specs.Option.{option_and_then}
+use Rattle.std.specs.Option.{option_and_then, option_map}
 use Rattle.std.proofs.lemmas.Bool.{ltb-true}
 use Rattle.std.proofs.lemmas.Option.{slice_get_past}
 use Rattle.zy_isa.specs.declared.instr.Instr.{Instr}
@@ -10,8 +10,11 @@ use Rattle.zy_isa.specs.declared.choice.Choice.{Choice}
 use Rattle.zy_isa.specs.declared.choice.Choice.TheVariants.{Run}
 use Rattle.zy_isa.specs.Choices.{names_below}
 use Rattle.zy_isa.specs.Scenario.{Scenario}
+use Rattle.zy_table.specs.declared.outcome.Outcome.{Outcome}
 use Rattle.zy_table.specs.State.{State}
-use Rattle.zy_table.specs.Observations.{shown_register, txn_of, register_of}
+use Rattle.zy_table.specs.Database.{all_leaves}
+use Rattle.zy_table.specs.Pages.{rows_of}
+use Rattle.zy_table.specs.Observations.{shown_register, txn_of, register_of, moved_page, rows_after}
 use Rattle.zy_table.proofs.Programs.{program-read, got}
 use Rattle.zy_laws.specs.Counts.{Safe}
 use Rattle.zy_laws.proofs.counts.SafeCounts.{safe}
@@ -47,3 +50,7 @@ module _ (sc : Scenario) (s : State) (n : Node) (t i pc : ℕ) (program : List I
 
   pub register_past : length program ≤ pc → None ≡ register_of sc s (Run n t)
   register_past over = ap (option_and_then shown_register) (sym (slice_get_past program pc over)) ∙ sym register_at
+
+-- the rows of the page that a step moved
+pub moved_rows : (s : State) (o : Outcome) (p : ℕ) → moved_page o ≡ Some p → Some (rows_of (all_leaves s) p) ≡ rows_after s o
+moved_rows s o p e = ap (option_map (rows_of (all_leaves s))) (sym e)

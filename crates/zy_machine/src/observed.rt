@@ -7,8 +7,10 @@ ghost use Rattle.zy_table.specs.Observations.{observation_at};
 ghost use Rattle.zy_table.specs.Play as table;
 
 use crate::machine::{Fault, Machine};
-use zy_isa::{Choice, Reg};
-use zy_table::{Observation, Outcome, shown_register};
+use zy_isa::{Choice, Node, Reg};
+use zy_model::table::on_start;
+use zy_page::PageRows;
+use zy_table::{Observation, Outcome, client_node, moved_page, shown_register};
 
 impl Machine {
     /// The register that a choice shows: that of the instruction which its transaction does next.
@@ -43,6 +45,33 @@ impl Machine {
         }
     }
 
+    /// The rows of the page that a step with this outcome moved, where the machine is after it.
+    fn rows_after(&self, outcome: Outcome) -> Option<PageRows>
+        ensures { result ≡ spec.rows_after self.now.state outcome }
+    {
+        let number = moved_page(outcome)?;
+        match self.page(number) {
+            Some(page) => Some(PageRows::of(page.rows())),
+            None => Some(PageRows::new()),
+        }
+    }
+
+    /// The node from whose side a choice is made.
+    fn side_of(&self, choice: Choice) -> Node
+        requires { names_below (length self.now.scenario.programs) choice ≡ true }
+        ensures { result ≡ table.side_of self.now.scenario choice self.now.state }
+    {
+        let version = self.scenario().version();
+        match choice {
+            Choice::Start => {
+                on_start(self.mode(Node::A), self.mode(Node::B), version).unwrap_or(Node::A)
+            }
+            Choice::Begin(_) => Node::A,
+            Choice::Kill(t) => self.txn(t).node(),
+            Choice::Run(n, _) | Choice::Take(n) | Choice::Finish(n) | Choice::Push(n) => n,
+        }
+    }
+
     /// Makes a choice, and returns what its step shows. Out of memory, nothing changes.
     pub fn observe(&mut self, choice: Choice) -> Result<Observation, Fault>
         requires named { names_below (length self.old.scenario.programs) choice ≡ true }
@@ -54,8 +83,13 @@ impl Machine {
         ensures memory { OnErr result (self.new ≡ self.old) }
     {
         let register = self.register_of(choice);
+        let side = self.side_of(choice);
         let entry = self.step(choice)?;
-        let value = self.value_after(choice, entry.outcome, register);
-        Ok(Observation { entry, value })
+        Ok(Observation {
+            entry,
+            value: self.value_after(choice, entry.outcome, register),
+            rows: self.rows_after(entry.outcome),
+            node: client_node(choice, side, entry.outcome),
+        })
     }
 }
