@@ -12,9 +12,7 @@ use Rattle.zy_isa.specs.Choices.{names_below}
 use Rattle.zy_isa.specs.Scenario.{Scenario}
 use Rattle.zy_table.specs.declared.outcome.Outcome.{Outcome}
 use Rattle.zy_table.specs.State.{State}
-use Rattle.zy_table.specs.Database.{all_leaves}
-use Rattle.zy_table.specs.Pages.{rows_of}
-use Rattle.zy_table.specs.Observations.{shown_register, txn_of, register_of, moved_page, rows_after}
+use Rattle.zy_table.specs.Observations.{shown_register, txn_of, register_of, moved_page, page_rows, rows_after}
 use Rattle.zy_table.proofs.Programs.{program-read, got}
 use Rattle.zy_laws.specs.Counts.{Safe}
 use Rattle.zy_laws.proofs.counts.SafeCounts.{safe}
@@ -52,5 +50,5 @@ module _ (sc : Scenario) (s : State) (n : Node) (t i pc : ℕ) (program : List I
   register_past over = ap (option_and_then shown_register) (sym (slice_get_past program pc over)) ∙ sym register_at
 
 -- the rows of the page that a step moved
-pub moved_rows : (s : State) (o : Outcome) (p : ℕ) → moved_page o ≡ Some p → Some (rows_of (all_leaves s) p) ≡ rows_after s o
-moved_rows s o p e = ap (option_map (rows_of (all_leaves s))) (sym e)
+pub moved_rows : (s : State) (o : Outcome) (p : ℕ) → moved_page o ≡ Some p → Some (page_rows s p) ≡ rows_after s o
+moved_rows s o p e = ap (option_map (page_rows s)) (sym e)

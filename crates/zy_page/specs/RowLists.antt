@@ -1,6 +1,7 @@
 -- A list of rows as everyone sees it, and what it keeps.
 use Rattle.std.specs.Prelude.{◌≡◌, ◌⊎◌, IsSome, ℕ, ◌≤◌, ◌-◌, ◌++◌, List, length, replicate, take}
 use Rattle.zy_isa.specs.declared.row.Row.{Row}
+use Rattle.zy_page.specs.declared.page_rows.PageRows.{PageRows}
 use Rattle.zy_isa.specs.Limits.{max_cap}
 use Rattle.zy_isa.specs.Rows.{Rising, RowsFit, get_row}
 
@@ -24,16 +25,18 @@ pub record IsPageful (len : ℕ) (cells : List Row) : Type 0 where
   pub full : length cells ≡ max_cap
   pub kept : AreKept (take len cells)
 
--- a place without a row
+-- a cell without a row
 abbrev pub blank : Row
 blank = record { key = 0; value = 0 }
 
--- cells for the rows of a page: those of these rows, and places without one
+-- cells for the rows of a page: those of these rows, and others without one
 abbrev pub padded : List Row → List Row
 padded rows = rows ++ replicate (max_cap - length rows) blank
 
--- the first of the cells are rows, and the others are places without one
-pub record IsPadded (len : ℕ) (cells : List Row) : Type 0 where
-  pub few : len ≤ max_cap
-  pub full : length cells ≡ max_cap
-  pub are : cells ≡ padded (take len cells)
+-- these rows by themselves
+abbrev pub of_rows : List Row → PageRows
+of_rows rows = record { len = length rows; cells = padded rows }
+
+-- the rows that these are
+abbrev pub rows_in : PageRows → List Row
+rows_in x = take x.len x.cells

@@ -4,12 +4,13 @@ use Rattle.std.specs.Option.{option_map}
 use Rattle.std.proofs.lemmas.Bool.{cases_eq}
 use Rattle.zy_isa.specs.declared.node.Node.{Node}
 use Rattle.zy_isa.specs.declared.node.Node.TheVariants.{A, B}
-use Rattle.zy_isa.specs.declared.row.Row.{Row}
 use Rattle.zy_isa.specs.declared.choice.Choice.{Choice}
 use Rattle.zy_isa.specs.declared.choice.Choice.TheVariants.{Start, Kill}
 use Rattle.zy_isa.specs.Choices.{actor_of, actor_at}
 use Rattle.zy_isa.specs.Scenario.{Scenario}
 use Rattle.zy_model.specs.declared.lock.Lock.{Lock}
+use Rattle.zy_page.specs.declared.page_rows.PageRows.{PageRows}
+use Rattle.zy_page.specs.RowLists.{of_rows}
 use Rattle.zy_table.specs.declared.entry.Entry.{Entry}
 use Rattle.zy_table.specs.declared.outcome.Outcome.{Outcome}
 use Rattle.zy_table.specs.State.{State, Leaf, Step, Txn, facing}
@@ -29,19 +30,19 @@ abbrev node_of : Scenario → State → Choice → Option Node
 node_of sc s c = client_node c (side_of sc c s) (step sc c s).outcome
 
 -- the rows that a step shows
-abbrev pub rows_in : Step → Option (List Row)
-rows_in x = rows_after x.after x.outcome
+abbrev pub rows_shown : Step → Option PageRows
+rows_shown x = rows_after x.after x.outcome
 
 -- the same entry, value, rows and node: the same observation
 pub same_observation : (sc : Scenario) (c : Choice) (r s : State) → entry_of c (step sc c r) ≡ entry_of c (step sc c s)
-    → value_of sc r c ≡ value_of sc s c → rows_in (step sc c r) ≡ rows_in (step sc c s) → node_of sc r c ≡ node_of sc s c
+    → value_of sc r c ≡ value_of sc s c → rows_shown (step sc c r) ≡ rows_shown (step sc c s) → node_of sc r c ≡ node_of sc s c
     → observation_at sc r c ≡ observation_at sc s c
 same_observation sc c r s entry value rows node =
     let x = step sc c s in
-    ap (λ (e : Entry). record { entry = e; value = value_of sc r c; rows = rows_in (step sc c r); node = node_of sc r c }) entry
-    ∙ (ap (λ (v : Option ℕ). record { entry = entry_of c x; value = v; rows = rows_in (step sc c r); node = node_of sc r c }) value
-    ∙ (ap (λ (o : Option (List Row)). record { entry = entry_of c x; value = value_of sc s c; rows = o; node = node_of sc r c }) rows
-    ∙ ap (λ (k : Option Node). record { entry = entry_of c x; value = value_of sc s c; rows = rows_in x; node = k }) node))
+    ap (λ (e : Entry). record { entry = e; value = value_of sc r c; rows = rows_shown (step sc c r); node = node_of sc r c }) entry
+    ∙ (ap (λ (v : Option ℕ). record { entry = entry_of c x; value = v; rows = rows_shown (step sc c r); node = node_of sc r c }) value
+    ∙ (ap (λ (o : Option PageRows). record { entry = entry_of c x; value = value_of sc s c; rows = o; node = node_of sc r c }) rows
+    ∙ ap (λ (k : Option Node). record { entry = entry_of c x; value = value_of sc s c; rows = rows_shown x; node = k }) node))
 
 module _ (n : Node) (t : ℕ) (y : Txn) (ls : List Lock) (s : State) where
   -- all pages are as they were
@@ -53,7 +54,7 @@ module _ (n : Node) (t : ℕ) (y : Txn) (ls : List Lock) (s : State) where
 
   -- so are the rows of the page that an outcome moved
   moved_rows : (o : Outcome) → rows_after (moved n t y ls s) o ≡ rows_after s o
-  moved_rows o = ap (λ (xs : List Leaf). option_map (rows_of xs) (moved_page o)) moved_leaves
+  moved_rows o = ap (λ (xs : List Leaf). option_map (λ p. of_rows (rows_of xs p)) (moved_page o)) moved_leaves
 
   module _ (stays : Stays (txn_at (facing n s) t) y) where
     -- t is at the node where it was
@@ -86,6 +87,6 @@ far_observation sc n t y z ls ms s c stays settled far e =
     let there = moved n t y ls s in
     let x = step sc c s in
     same_observation sc c there s (ap (entry_of c) e) (far_value sc n t y z ls ms s c settled far e)
-    (ap rows_in e ∙ moved_rows n t z ms x.after x.outcome)
+    (ap rows_shown e ∙ moved_rows n t z ms x.after x.outcome)
     (ap (λ (k : Node). client_node c k (step sc c there).outcome) (moved_side n t y ls s stays sc c)
     ∙ ap (λ (k : Step). client_node c (side_of sc c s) k.outcome) e)

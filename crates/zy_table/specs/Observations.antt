@@ -8,8 +8,9 @@ use Rattle.zy_isa.specs.declared.instr.Reg.{Reg}
 use Rattle.zy_isa.specs.declared.choice.Choice.{Choice}
 use Rattle.zy_isa.specs.declared.choice.Choice.TheVariants.{Start, Begin, Kill, Run}
 use Rattle.zy_isa.specs.declared.node.Node.{Node}
-use Rattle.zy_isa.specs.declared.row.Row.{Row}
 use Rattle.zy_isa.specs.Scenario.{Scenario}
+use Rattle.zy_page.specs.declared.page_rows.PageRows.{PageRows}
+use Rattle.zy_page.specs.RowLists.{of_rows}
 use Rattle.zy_table.specs.declared.observation.Observation.{Observation}
 use Rattle.zy_table.specs.declared.outcome.Outcome.{Outcome}
 use Rattle.zy_table.specs.declared.outcome.Outcome.TheVariants.{Started, Began, Did, Aborted, GotPull, GotPage, Pushed}
@@ -62,9 +63,13 @@ moved_page (GotPage p) = Some p
 moved_page (Pushed p) = Some p
 moved_page o = None
 
--- the rows of that page where the step led, wherever it is then
-abbrev pub rows_after : State → Outcome → Option (List Row)
-rows_after s o = option_map (rows_of (all_leaves s)) (moved_page o)
+-- the rows of a page, wherever it is
+abbrev pub page_rows : State → ℕ → PageRows
+page_rows s p = of_rows (rows_of (all_leaves s) p)
+
+-- the rows of the page that a step moved, where the step led
+abbrev pub rows_after : State → Outcome → Option PageRows
+rows_after s o = option_map (page_rows s) (moved_page o)
 
 -- the node at which a choice of the client took place, which was made from this side: none, if it changed nothing
 abbrev pub client_node : Choice → Node → Outcome → Option Node

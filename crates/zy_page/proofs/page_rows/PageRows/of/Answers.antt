@@ -1,12 +1,13 @@
-use Rattle.std.proofs.Common.{◌++◌, List, drop, length, replicate, sym, subst}
+use Rattle.std.proofs.Common.{◌∙◌, ◌++◌, List, ap, drop, length}
+use Rattle.std.specs.Prelude.{replicate}
 use Rattle.zy_isa.specs.declared.row.Row.{Row}
 use Rattle.zy_isa.specs.Limits.{max_cap}
-use Rattle.zy_page.specs.RowLists.{IsPadded, blank}
+use Rattle.zy_page.specs.RowLists.{blank}
 use Rattle.zy_page.proofs.Padded.{padded_over}
 use Rattle.zy_page.proofs.page_rows.PageRows.of.Goals as goal
 
-pub invariant_of-result : goal.invariant_of-result
-invariant_of-result c =
+pub returns : goal.returns
+returns c =
     let rows = c.args.rows.now in
-    subst (λ (xs : List Row). IsPadded (length rows) (xs ++ drop (length rows) (replicate max_cap blank))) (sym c.copy_from_slice.ensures.after)
-    (padded_over rows c.requires)
+    ap (λ (xs : List Row). record { len = length rows; cells = xs })
+    (ap (λ (xs : List Row). xs ++ drop (length rows) (replicate max_cap blank)) c.copy_from_slice.ensures.after ∙ padded_over rows)

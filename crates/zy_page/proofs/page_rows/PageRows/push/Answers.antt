@@ -1,18 +1,15 @@
-use Rattle.std.proofs.Common.{arith}
-use Rattle.std.proofs.lemmas.List.{length-take-le}
-use Rattle.zy_page.proofs.Padded.{padded_more, taken_more}
+use Rattle.std.proofs.Common.{◌≡◌, ◌∙◌, ◌+◌, ◌++◌, ◌∷◌, [], ap, arith, length, length-append, set}
+use Rattle.zy_page.specs.declared.page_rows.PageRows.{PageRows}
+use Rattle.zy_page.specs.RowLists.{padded}
+use Rattle.zy_page.proofs.Padded.{padded_more}
 use Rattle.zy_page.proofs.page_rows.PageRows.push.Goals as goal
 
-pub invariant_of-self : goal.invariant_of-self
-invariant_of-self c =
-    let was = c.self.inside in
-    let count = length-take-le was.len was.cells (omega (arith, c.self.invariant.few, c.self.invariant.full)) in
-    let here = rw (← c.self.view_is) at c.requires in
-    padded_more was.len was.cells c.args.row (omega (arith, here, count)) c.self.invariant
-
 pub returns : goal.returns
-returns c =
-    let was = c.self.inside in
-    let count = length-take-le was.len was.cells (omega (arith, c.self.invariant.few, c.self.invariant.full)) in
-    let here = rw (← c.self.view_is) at c.requires in
-    rw (← c.self.view_is) (taken_more was.len was.cells c.args.row (omega (arith, here, count, c.self.invariant.full)))
+returns c = λ rows e.
+    let r = c.args.row in
+    let count = ap (λ (x : PageRows). x.len) e in
+    let cells = ap (λ (x : PageRows). x.cells) e in
+    let more : c.args.self.now.len + 1 ≡ length (rows ++ r ∷ []) = omega (arith, count, length-append rows (r ∷ [])) in
+    let put : set c.args.self.now.cells c.args.self.now.len r ≡ padded (rows ++ r ∷ []) =
+    (λ i. set (cells i) (count i) r) ∙ padded_more rows r (omega (arith, count, c.requires)) in
+    λ i. record { len = more i; cells = put i }
