@@ -23,7 +23,7 @@ use Rattle.zy_steps.proofs.DidRuns.{moded, relocked, did_went, stands}
 use Rattle.zy_steps.proofs.Carried.{carried}
 use Rattle.zy_steps.proofs.SameValues.{of_view, same_value}
 use Rattle.zy_steps.proofs.FarValues.{moved_self}
-use Rattle.zy_steps.proofs.SameObservations.{rows_in, same_observation, far_observation}
+use Rattle.zy_steps.proofs.SameObservations.{rows_shown, same_observation, far_observation}
 use Rattle.zy_steps.proofs.Unseen.{which, all_hide, killed_for_good}
 use Rattle.zy_steps.proofs.Passes.{Passes, IsApart, IsSettled, has_begun, moved, apart_passes}
 
@@ -121,7 +121,7 @@ module _ (sc : Scenario) (n : Node) (t : ℕ) where
       ∙ (sym (moved_self n t k.txn k.locks s (active_where s does)) ∙ sym (ap (λ (x : Step). txn_of x.after t) k.first))) in
       let value = same_value sc n t r s k.same (ap (λ (x : Step). x.outcome) k.second ∙ sym (ap (λ (x : Step). x.outcome) k.first)) after in
       same_observation sc (Run n t) r s (ap (entry_of (Run n t)) k.second ∙ sym (ap (entry_of (Run n t)) k.first)) value
-      (ap rows_in k.second ∙ sym (ap rows_in k.first)) refl
+      (ap rows_shown k.second ∙ sym (ap rows_shown k.first)) refl
 
   -- so does the choice
   other_same : (s : State) (c : Choice) → Does sc n t s → (actor_of c ≡ actor_at n → ⊥) → Twice sc n t s c
