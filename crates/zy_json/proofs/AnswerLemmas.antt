@@ -98,7 +98,8 @@ action_told ms = both (part_of field.Action ms) (present field.Action) (found_to
 members_told : (ms : Members) → HasTold (step_in ms)
 members_told ms = both (actor_in ms) _ (actor_told ms) (λ who. both (action_in ms) _ (action_told ms) (λ what.
     both (part_of field.Came ms) _ (found_told field.Came ms) (λ came. both (value_beside came ms) _ (value_told came ms) (λ value.
-    both (part_of field.Sent ms) _ (found_told field.Sent ms) (λ sent. tt)))))
+    both (part_of field.Sent ms) _ (found_told field.Sent ms) (λ sent.
+    both (part_of field.Rows ms) _ (found_told field.Rows ms) (λ rows. tt))))))
 
 -- and so has any value
 any_told : (j : Json) → HasTold (step_told j)

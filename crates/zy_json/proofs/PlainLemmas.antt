@@ -45,19 +45,29 @@ letter_plain B = refl
 -- what stands behind the action's string in a step's line, without the brace
 abbrev plain_end : Step → List ℕ
 plain_end s = plain_field (codes ",\"came\":") s.came
-    ++ (behind (codes ",\"value\":") (digits_of s.value) ++ plain_field (codes ",\"sent\":") s.sent)
+    ++ (behind (codes ",\"value\":") (digits_of s.value)
+    ++ (plain_field (codes ",\"sent\":") s.sent ++ plain_field (codes ",\"rows\":") s.rows))
 
--- it is the same in the line whose texts are escaped
-ends_plain : (s : Step) → IsPlain s
-    → with_name (codes ",\"came\":") s.came ++ (behind (codes ",\"value\":") (digits_of s.value)
-    ++ (with_name (codes ",\"sent\":") s.sent ++ codes "}")) ≡ plain_end s ++ codes "}"
+-- and the same in the line whose texts are escaped, with the brace
+abbrev quoted_end : Step → List ℕ
+quoted_end s = with_name (codes ",\"came\":") s.came
+    ++ (behind (codes ",\"value\":") (digits_of s.value)
+    ++ (with_name (codes ",\"sent\":") s.sent ++ (with_name (codes ",\"rows\":") s.rows ++ codes "}")))
+
+-- the two ends are the same
+ends_plain : (s : Step) → IsPlain s → quoted_end s ≡ plain_end s ++ codes "}"
 ends_plain s plain =
     let came = plain_field (codes ",\"came\":") s.came in
     let value = behind (codes ",\"value\":") (digits_of s.value) in
     let sent = plain_field (codes ",\"sent\":") s.sent in
-    ap₂ (λ (a b : List ℕ). a ++ (value ++ (b ++ codes "}"))) (field_plain (codes ",\"came\":") s.came plain.came)
-    (field_plain (codes ",\"sent\":") s.sent plain.sent)
-    ∙ sym (append_assoc came (value ++ sent) (codes "}") ∙ ap (λ (l : List ℕ). came ++ l) (append_assoc value sent (codes "}")))
+    let rows = plain_field (codes ",\"rows\":") s.rows in
+    rw (
+      field_plain (codes ",\"came\":") s.came plain.came,
+      field_plain (codes ",\"sent\":") s.sent plain.sent,
+      field_plain (codes ",\"rows\":") s.rows plain.rows,
+    ) (sym (append_assoc came (value ++ (sent ++ rows)) (codes "}")
+    ∙ ap (λ (l : List ℕ). came ++ l) (append_assoc value (sent ++ rows) (codes "}")
+    ∙ ap (λ (l : List ℕ). value ++ l) (append_assoc sent rows (codes "}")))))
 
 -- the fields and the brace, in one row
 fields_closed : (s : Step) → plain_text s
@@ -70,10 +80,8 @@ fields_closed s =
 -- the two lines are the same
 pub plain_text-json_text : (s : Step) → IsPlain s → plain_text s ≡ json_text s
 plain_text-json_text s plain =
-    let rest = with_name (codes ",\"came\":") s.came ++ (behind (codes ",\"value\":") (digits_of s.value)
-    ++ (with_name (codes ",\"sent\":") s.sent ++ codes "}")) in
-    let did : quoted s.action ++ rest ≡ 34 ∷ (s.action ++ 34 ∷ (plain_end s ++ codes "}")) =
-    quoted_plain s.action rest plain.action ∙ ap (λ (l : List ℕ). 34 ∷ (s.action ++ 34 ∷ l)) (ends_plain s plain) in
-    let who = quoted_plain (actor_text s.actor) (codes ",\"do\":" ++ (quoted s.action ++ rest)) (letter_plain s.actor) in
+    let did : quoted s.action ++ quoted_end s ≡ 34 ∷ (s.action ++ 34 ∷ (plain_end s ++ codes "}")) =
+    quoted_plain s.action (quoted_end s) plain.action ∙ ap (λ (l : List ℕ). 34 ∷ (s.action ++ 34 ∷ l)) (ends_plain s plain) in
+    let who = quoted_plain (actor_text s.actor) (codes ",\"do\":" ++ (quoted s.action ++ quoted_end s)) (letter_plain s.actor) in
     fields_closed s ∙ sym (ap (λ (l : List ℕ). codes "{\"actor\":" ++ l)
     (who ∙ ap (λ (l : List ℕ). 34 ∷ (actor_text s.actor ++ (34 ∷ (codes ",\"do\":" ++ l)))) did))

@@ -36,6 +36,7 @@ same_name field.Action = refl
 same_name field.Came = refl
 same_name field.Value = refl
 same_name field.Sent = refl
+same_name field.Rows = refl
 
 -- the value of a text, and of a number
 abbrev text_value : Option (List ℕ) → List Json
@@ -92,24 +93,33 @@ record Found (s : Step) (ms : Members) : Type 0 where
   came : values_of (key_of field.Came) ms ≡ text_value s.came
   value : values_of (key_of field.Value) ms ≡ number_value s.value
   sent : values_of (key_of field.Sent) ms ≡ text_value s.sent
+  rows : values_of (key_of field.Rows) ms ≡ text_value s.rows
 
 -- each field of a step's object is found
 found_each : (s : Step) → Found s (members_of s)
 found_each s =
-    let sent = some_member field.Sent s.sent no_members in
+    let rows = some_member field.Rows s.rows no_members in
+    let sent = some_member field.Sent s.sent rows in
     let value = value_member s.value sent in
-    let none = λ (key : List ℕ) (c : bytes_eq (key_of field.Came) key ≡ false) (v : bytes_eq (key_of field.Value) key ≡ false)
-    (e : bytes_eq (key_of field.Sent) key ≡ false). not_text key field.Came s.came value c ∙ (not_value key s.value sent v
-    ∙ not_text key field.Sent s.sent no_members e) in
+    let no_came = λ (key : List ℕ) (e : bytes_eq (key_of field.Came) key ≡ false). not_text key field.Came s.came value e in
+    let no_value = λ (key : List ℕ) (e : bytes_eq (key_of field.Value) key ≡ false). not_value key s.value sent e in
+    let no_sent = λ (key : List ℕ) (e : bytes_eq (key_of field.Sent) key ≡ false). not_text key field.Sent s.sent rows e in
+    let no_rows = λ (key : List ℕ) (e : bytes_eq (key_of field.Rows) key ≡ false). not_text key field.Rows s.rows no_members e in
+    let actor = key_of field.Actor in
+    let action = key_of field.Action in
+    let came = key_of field.Came in
     record {
-      actor = ap (λ js. string (actor_text s.actor) ∷ js) (none (key_of field.Actor) refl refl refl);
-      action = ap (λ js. string s.action ∷ js) (none (key_of field.Action) refl refl refl);
-      came = own_text field.Came s.came value (not_value (key_of field.Came) s.value sent refl
-          ∙ not_text (key_of field.Came) field.Sent s.sent no_members refl);
-      value = not_text (key_of field.Value) field.Came s.came value refl
-          ∙ own_value s.value sent (not_text (key_of field.Value) field.Sent s.sent no_members refl);
-      sent = not_text (key_of field.Sent) field.Came s.came value refl
-          ∙ (not_value (key_of field.Sent) s.value sent refl ∙ own_text field.Sent s.sent no_members refl);
+      actor = ap (λ js. string (actor_text s.actor) ∷ js)
+          (no_came actor refl ∙ (no_value actor refl ∙ (no_sent actor refl ∙ no_rows actor refl)));
+      action = ap (λ js. string s.action ∷ js)
+          (no_came action refl ∙ (no_value action refl ∙ (no_sent action refl ∙ no_rows action refl)));
+      came = own_text field.Came s.came value (no_value came refl ∙ (no_sent came refl ∙ no_rows came refl));
+      value = no_came (key_of field.Value) refl
+          ∙ own_value s.value sent (no_sent (key_of field.Value) refl ∙ no_rows (key_of field.Value) refl);
+      sent = no_came (key_of field.Sent) refl
+          ∙ (no_value (key_of field.Sent) refl ∙ own_text field.Sent s.sent rows (no_rows (key_of field.Sent) refl));
+      rows = no_came (key_of field.Rows) refl
+          ∙ (no_value (key_of field.Rows) refl ∙ (no_sent (key_of field.Rows) refl ∙ own_text field.Rows s.rows no_members refl));
     }
 
 -- so the object of a step tells the step
@@ -123,6 +133,7 @@ told_by s ms f line =
       part field.Came ms s.came f.came line.came,
       value s.came ms s.value f.value line.value,
       part field.Sent ms s.sent f.sent line.sent,
+      part field.Rows ms s.rows f.rows line.rows,
     ) refl
 
 pub step_in-members_of : (s : Step) → IsLine s → step_in (members_of s) ≡ Ok s
@@ -200,10 +211,12 @@ IsLine-step_in ms s e =
     let came = bind_ok (part_of field.Came ms) _ s what.2 in
     let value = bind_ok (value_beside came.0 ms) _ s came.2 in
     let sent = bind_ok (part_of field.Sent ms) _ s value.2 in
-    let made : record { actor = who.0; action = what.0; came = came.0; value = value.0; sent = sent.0 } ≡ s = cc in
+    let rows = bind_ok (part_of field.Rows ms) _ s sent.2 in
+    let made : record { actor = who.0; action = what.0; came = came.0; value = value.0; sent = sent.0; rows = rows.0 } ≡ s = cc in
     subst IsLine made (record {
       action = action_is_part ms what.0 what.1;
       came = found_is_part field.Came ms came.0 came.1;
       value = value_is_shown came.0 ms value.0 value.1;
       sent = found_is_part field.Sent ms sent.0 sent.1;
+      rows = found_is_part field.Rows ms rows.0 rows.1;
     })

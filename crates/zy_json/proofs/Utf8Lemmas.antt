@@ -41,9 +41,11 @@ IsUtf8-json_text s utf8 line =
     let came = with_name (codes ",\"came\":") s.came in
     let shown = behind (codes ",\"value\":") (digits_of s.value) in
     let sent = with_name (codes ",\"sent\":") s.sent in
-    let ends = joined came shown sent (codes "}") (field (codes ",\"came\":") s.came refl utf8.came)
-    (value (codes ",\"value\":") s.came s.value refl line.value) (field (codes ",\"sent\":") s.sent refl utf8.sent)
+    let end = with_name (codes ",\"rows\":") s.rows ++ codes "}" in
+    let closed = IsUtf8-append (with_name (codes ",\"rows\":") s.rows) (codes "}") (field (codes ",\"rows\":") s.rows refl utf8.rows)
     (IsUtf8-are_ascii (codes "}") refl) in
-    joined (codes "{\"actor\":") (quoted (actor_text s.actor)) (codes ",\"do\":") (quoted s.action ++ (came ++ (shown ++ (sent ++ codes "}"))))
+    let ends = joined came shown sent end (field (codes ",\"came\":") s.came refl utf8.came)
+    (value (codes ",\"value\":") s.came s.value refl line.value) (field (codes ",\"sent\":") s.sent refl utf8.sent) closed in
+    joined (codes "{\"actor\":") (quoted (actor_text s.actor)) (codes ",\"do\":") (quoted s.action ++ (came ++ (shown ++ (sent ++ end))))
     (IsUtf8-are_ascii (codes "{\"actor\":") refl) (IsUtf8-quoted (actor_text s.actor) (letter s.actor))
     (IsUtf8-are_ascii (codes ",\"do\":") refl) (IsUtf8-append (quoted s.action) _ (IsUtf8-quoted s.action utf8.action) ends)

@@ -150,13 +150,14 @@ parts_lack (Some text) h = part_lacks text h
 
 -- a byte that neither the letter of an actor, a sign nor a text has
 log_lacks : (b : ℕ) (s : Step) → has b (actor_text s.actor) ≡ false → has b (32 ∷ s.action) ≡ false
-    → has b (codes " -> ") ≡ false → has b (codes " ") ≡ false → has b (codes " ! ") ≡ false
+    → has b (codes " -> ") ≡ false → has b (codes " ") ≡ false → has b (codes " ! ") ≡ false → has b (codes " rows ") ≡ false
     → IfSome s.came (λ text. has b text ≡ false) → IfSome (digits_of s.value) (λ text. has b text ≡ false)
-    → IfSome s.sent (λ text. has b text ≡ false) → has b (log_text s) ≡ false
-log_lacks b s who did p q r c v e = lacks b (actor_text s.actor) _ who (lacks b (32 ∷ s.action) _ did
-    (lacks b (behind (codes " -> ") s.came) _ (behind_lacks b (codes " -> ") s.came p c)
-    (lacks b (behind (codes " ") (digits_of s.value)) _ (behind_lacks b (codes " ") (digits_of s.value) q v)
-    (behind_lacks b (codes " ! ") s.sent r e))))
+    → IfSome s.sent (λ text. has b text ≡ false) → IfSome s.rows (λ text. has b text ≡ false) → has b (log_text s) ≡ false
+log_lacks b s who did p q r t came value sent rows = lacks b (actor_text s.actor) _ who (lacks b (32 ∷ s.action) _ did
+    (lacks b (behind (codes " -> ") s.came) _ (behind_lacks b (codes " -> ") s.came p came)
+    (lacks b (behind (codes " ") (digits_of s.value)) _ (behind_lacks b (codes " ") (digits_of s.value) q value)
+    (lacks b (behind (codes " ! ") s.sent) _ (behind_lacks b (codes " ! ") s.sent r sent)
+    (behind_lacks b (codes " rows ") s.rows t rows)))))
 
 -- a step's line lacks the semicolon and the line feed
 line_lacks : (s : Step) → IsLine s → (has 59 (log_text s) ≡ false) × (has 10 (log_text s) ≡ false)
@@ -166,11 +167,14 @@ line_lacks s line =
     let came = parts_lack s.came line.came in
     let value = parts_lack (digits_of s.value) (value_part s.came s.value line.value) in
     let sent = parts_lack s.sent line.sent in
-    (log_lacks 59 s who.0 did.0 refl refl refl came.0 value.0 sent.0, log_lacks 10 s who.1 did.1 refl refl refl came.1 value.1 sent.1)
+    let rows = parts_lack s.rows line.rows in (
+      log_lacks 59 s who.0 did.0 refl refl refl refl came.0 value.0 sent.0 rows.0,
+      log_lacks 10 s who.1 did.1 refl refl refl refl came.1 value.1 sent.1 rows.1,
+    )
 
--- four lists, one after the other
-in_one_row : {X : Type 0} (a b c d : List X) → ((a ++ b) ++ c) ++ d ≡ a ++ (b ++ (c ++ d))
-in_one_row a b c d = append_assoc (a ++ b) c d ∙ append_assoc a b (c ++ d)
+-- five lists, one after the other
+in_one_row : {X : Type 0} (a b c d e : List X) → (((a ++ b) ++ c) ++ d) ++ e ≡ a ++ (b ++ (c ++ (d ++ e)))
+in_one_row a b c d e = append_assoc ((a ++ b) ++ c) d e ∙ (append_assoc (a ++ b) c (d ++ e) ∙ append_assoc a b (c ++ (d ++ e)))
 
 -- ---- the three facts
 
@@ -179,14 +183,17 @@ words_of-log_text s line =
     let c = behind (codes " -> ") s.came in
     let v = behind (codes " ") (digits_of s.value) in
     let e = behind (codes " ! ") s.sent in
-    words_are_parted (log_text s) (line_lacks s line).0 ∙ parted_space (actor_text s.actor) (s.action ++ (c ++ (v ++ e)))
-    ∙ ap (λ (l : List (List ℕ)). l ++ parted (s.action ++ (c ++ (v ++ e)))) (letter_parted s.actor)
+    let r = behind (codes " rows ") s.rows in
+    words_are_parted (log_text s) (line_lacks s line).0 ∙ parted_space (actor_text s.actor) (s.action ++ (c ++ (v ++ (e ++ r))))
+    ∙ ap (λ (l : List (List ℕ)). l ++ parted (s.action ++ (c ++ (v ++ (e ++ r))))) (letter_parted s.actor)
     ∙ ap (λ (l : List (List ℕ)). actor_text s.actor ∷ l)
-    (ap parted (sym (in_one_row s.action c v e)) ∙ sign_parted ((s.action ++ c) ++ v) (codes "!") s.sent refl line.sent
+    (ap parted (sym (in_one_row s.action c v e r)) ∙ sign_parted (((s.action ++ c) ++ v) ++ e) (codes "rows") s.rows refl line.rows
+    ∙ ap (λ (l : List (List ℕ)). l ++ signed (codes "rows") s.rows) (sign_parted ((s.action ++ c) ++ v) (codes "!") s.sent refl line.sent
     ∙ ap (λ (l : List (List ℕ)). l ++ signed (codes "!") s.sent) (value_parted (s.action ++ c) s.came s.value line.value
     ∙ ap (λ (l : List (List ℕ)). l ++ numeral s.value) (sign_parted s.action (codes "->") s.came refl line.came
-    ∙ ap (λ (l : List (List ℕ)). l ++ signed (codes "->") s.came) (sym (words_are_parted s.action (part_lacks s.action line.action).0))))
-    ∙ in_one_row (words_of s.action) (signed (codes "->") s.came) (numeral s.value) (signed (codes "!") s.sent))
+    ∙ ap (λ (l : List (List ℕ)). l ++ signed (codes "->") s.came) (sym (words_are_parted s.action (part_lacks s.action line.action).0)))))
+    ∙ in_one_row (words_of s.action) (signed (codes "->") s.came) (numeral s.value) (signed (codes "!") s.sent)
+    (signed (codes "rows") s.rows))
 
 pub lines_of-log_text : (s : Step) (below : List ℕ) → IsLine s → lines_of (log_text s ++ 10 ∷ below) ≡ log_text s ∷ lines_of below
 lines_of-log_text s below line = one_line (log_text s) below (line_lacks s line).1

@@ -28,26 +28,35 @@ value_member None ms = ms
 value_member (Some n) ms = member (key_of field.Value) (number (decimal n)) ms
 
 -- the members behind the action
-abbrev pub members_behind : Option (List ℕ) → Option ℕ → Option (List ℕ) → Members
-members_behind came value sent = some_member field.Came came (value_member value (some_member field.Sent sent no_members))
+abbrev pub members_behind : Option (List ℕ) → Option ℕ → Option (List ℕ) → Option (List ℕ) → Members
+members_behind came value sent rows =
+    some_member field.Came came (value_member value (some_member field.Sent sent (some_member field.Rows rows no_members)))
 
 abbrev pub members_of : Step → Members
 members_of s = member (key_of field.Actor) (string (actor_text s.actor)) (member (key_of field.Action) (string s.action)
-    (members_behind s.came s.value s.sent))
+    (members_behind s.came s.value s.sent s.rows))
 
 -- the tokens of the object are printed as the line, by what is there
-printed : (a : Actor) (what : List ℕ) (came : Option (List ℕ)) (value : Option ℕ) (sent : Option (List ℕ))
-    → print (json_tokens (object (members_of (record { actor = a; action = what; came = came; value = value; sent = sent }))))
-    ≡ json_text (record { actor = a; action = what; came = came; value = value; sent = sent })
+printed : (a : Actor) (what : List ℕ) (came : Option (List ℕ)) (value : Option ℕ) (sent rows : Option (List ℕ))
+    → print (json_tokens (object (members_of (record { actor = a; action = what; came = came; value = value; sent = sent; rows = rows }))))
+    ≡ json_text (record { actor = a; action = what; came = came; value = value; sent = sent; rows = rows })
 unfolding json_on_literals
-printed a what None None None = refl
-printed a what None None (Some sent) = refl
-printed a what None (Some n) None = refl
-printed a what None (Some n) (Some sent) = refl
-printed a what (Some came) None None = refl
-printed a what (Some came) None (Some sent) = refl
-printed a what (Some came) (Some n) None = refl
-printed a what (Some came) (Some n) (Some sent) = refl
+printed a what None None None None = refl
+printed a what None None None (Some rows) = refl
+printed a what None None (Some sent) None = refl
+printed a what None None (Some sent) (Some rows) = refl
+printed a what None (Some n) None None = refl
+printed a what None (Some n) None (Some rows) = refl
+printed a what None (Some n) (Some sent) None = refl
+printed a what None (Some n) (Some sent) (Some rows) = refl
+printed a what (Some came) None None None = refl
+printed a what (Some came) None None (Some rows) = refl
+printed a what (Some came) None (Some sent) None = refl
+printed a what (Some came) None (Some sent) (Some rows) = refl
+printed a what (Some came) (Some n) None None = refl
+printed a what (Some came) (Some n) None (Some rows) = refl
+printed a what (Some came) (Some n) (Some sent) None = refl
+printed a what (Some came) (Some n) (Some sent) (Some rows) = refl
 
 -- a text is no number, and nests nothing
 some_numbers : (f : Member) (o : Option (List ℕ)) (ms : Members) → MembersHaveNumbers ms → MembersHaveNumbers (some_member f o ms)
@@ -70,14 +79,17 @@ value_flat (Some n) ms h = omega arith
 
 -- the object of a step has numbers, and nests once
 numbers : (s : Step) → IsLine s → HasNumbers (object (members_of s))
-numbers s line = (tt, (tt, some_numbers field.Came s.came _ (value_numbers s.came s.value _ line.value (some_numbers field.Sent s.sent no_members tt))))
+numbers s line =
+    let rows = some_numbers field.Rows s.rows no_members tt in
+    (tt, (tt, some_numbers field.Came s.came _ (value_numbers s.came s.value _ line.value (some_numbers field.Sent s.sent _ rows))))
 
 flat : (s : Step) → depth (object (members_of s)) ≤ 128
 flat s =
-    let behind = some_flat field.Came s.came _ (value_flat s.value _ (some_flat field.Sent s.sent no_members (lit≤ tt))) in
+    let rows = some_flat field.Rows s.rows no_members (lit≤ tt) in
+    let behind = some_flat field.Came s.came _ (value_flat s.value _ (some_flat field.Sent s.sent _ rows)) in
     omega (arith, behind)
 
 -- a step's line is JSON, and its value is the step's object
 pub document-json_text : (s : Step) → IsLine s → document (json_text s) ≡ Some (object (members_of s))
 document-json_text s line =
-    ap document (sym (printed s.actor s.action s.came s.value s.sent)) ∙ document-print (object (members_of s)) (numbers s line) (flat s)
+    ap document (sym (printed s.actor s.action s.came s.value s.sent s.rows)) ∙ document-print (object (members_of s)) (numbers s line) (flat s)

@@ -10,6 +10,7 @@ key_of field.Action = codes "do"
 key_of field.Came = codes "came"
 key_of field.Value = codes "value"
 key_of field.Sent = codes "sent"
+key_of field.Rows = codes "rows"
 
 -- its name in quotation marks
 abbrev pub shown : Member → List ℕ

@@ -105,7 +105,7 @@ actor_in ms = (text_of field.Actor ms >>= present field.Actor) >>= actor_of
 abbrev pub action_in : Members → Result (List ℕ) JsonFault
 action_in ms = part_of field.Action ms >>= present field.Action
 
--- the step that members tell; other members than these five are passed over
+-- the step that members tell; other members than these six are passed over
 abbrev pub step_in : Members → Result Step JsonFault
 step_in ms = do
   who ← actor_in ms
@@ -113,4 +113,5 @@ step_in ms = do
   came ← part_of field.Came ms
   value ← value_beside came ms
   sent ← part_of field.Sent ms
-  Ok (record { actor = who; action = what; came = came; value = value; sent = sent })
+  rows ← part_of field.Rows ms
+  Ok (record { actor = who; action = what; came = came; value = value; sent = sent; rows = rows })

@@ -21,6 +21,7 @@ pub record IsLine (s : Step) : Type 0 where
   pub came : IfSome s.came IsPart
   pub value : IfSome s.value (IsBesideDid s.came)
   pub sent : IfSome s.sent IsPart
+  pub rows : IfSome s.rows IsPart
 
 -- a sign and the words of a text; nothing, where there is no text
 abbrev pub signed : List ℕ → Option (List ℕ) → List (List ℕ)
@@ -32,7 +33,8 @@ abbrev pub numeral : Option ℕ → List (List ℕ)
 numeral None = []
 numeral (Some n) = decimal n ∷ []
 
--- the words of the line: the actor, and those of each text, with a sign between, and the value behind what came
+-- the words of the line: the actor, and those of each text, with a sign or the word `rows` between, and the value behind what came
 abbrev pub line_words : Step → List (List ℕ)
 line_words s = actor_text s.actor ∷ words_of s.action
-    ++ (signed (codes "->") s.came ++ (numeral s.value ++ signed (codes "!") s.sent))
+    ++ (signed (codes "->") s.came ++ (numeral s.value
+    ++ (signed (codes "!") s.sent ++ signed (codes "rows") s.rows)))

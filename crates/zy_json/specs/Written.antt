@@ -12,7 +12,7 @@ abbrev pub with_name : List ℕ → Option (List ℕ) → List ℕ
 with_name name None = []
 with_name name (Some text) = name ++ quoted text
 
--- {"actor":ACTOR,"do":ACTION[,"came":CAME][,"value":VALUE][,"sent":SENT]}
+-- {"actor":ACTOR,"do":ACTION[,"came":CAME][,"value":VALUE][,"sent":SENT][,"rows":ROWS]}
 abbrev pub json_text : Step → List ℕ
 json_text s =
     codes "{\"actor\":" ++ (quoted (actor_text s.actor)
@@ -20,13 +20,15 @@ json_text s =
     ++ (with_name (codes ",\"came\":") s.came
     ++ (behind (codes ",\"value\":") (digits_of s.value)
     ++ (with_name (codes ",\"sent\":") s.sent
-    ++ codes "}"))))))
+    ++ (with_name (codes ",\"rows\":") s.rows
+    ++ codes "}")))))))
 
 -- the texts of a step are in UTF-8
 pub record IsInUtf8 (s : Step) : Type 0 where
   pub action : IsUtf8 s.action
   pub came : IfSome s.came IsUtf8
   pub sent : IfSome s.sent IsUtf8
+  pub rows : IfSome s.rows IsUtf8
 
 -- what is read of a step's line is the step, unless there was no memory
 abbrev pub IsReadAs : Step → Result JsonStep JsonFault → Type 0

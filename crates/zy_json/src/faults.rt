@@ -5,7 +5,7 @@ use std::alloc::AllocError;
 use thiserror::Error;
 
 /// Why a line is none of a log in JSON. Of several faults the first is reported, in the order of the variants up to `NotObject`,
-/// and then field by field: `actor`, `do`, `came`, `value`, `sent`.
+/// and then field by field: `actor`, `do`, `came`, `value`, `sent`, `rows`.
 #[derive(Clone, Copy, Debug, PartialEq, Eq, Error)]
 pub enum JsonFault {
     /// The line is no JSON text in UTF-8. The number says about where: how many bytes were passed before the reader stopped. It

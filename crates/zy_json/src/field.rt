@@ -17,6 +17,8 @@ pub enum Member {
     Value,
     /// The kind of the message that was sent, under `sent`, as `pull`. It may be left out.
     Sent,
+    /// The rows of the page that the step moved, under `rows`, as `10=1 20=2`. It may be left out.
+    Rows,
 }
 
 impl Member {
@@ -30,6 +32,7 @@ impl Member {
             Member::Came => "came",
             Member::Value => "value",
             Member::Sent => "sent",
+            Member::Rows => "rows",
         }
     }
 }

@@ -28,8 +28,9 @@ pub fn read_is_line()
     ensures { (text : List ℕ) (s : AStep) → Tells text (Ok s) → IsLine s }
 {}
 
-/// If a step's texts are parts of a line, its line of a log has the words of these texts, with signs between, and is one line,
-/// whatever comes below it. No word of a part has a sign that ends a part: so none is taken for more than a word of its own part.
+/// If a step's texts are parts of a line, its line of a log has the words of these texts, with signs and the word `rows` between, and
+/// is one line, whatever comes below it. No word of a part has a sign that ends a part: so none is taken for more than a word of its
+/// own part.
 pub fn line_has_words()
     ensures words { (s : AStep) → IsLine s → words_of (log_text s) ≡ line_words s }
     ensures one { (s : AStep) (below : List ℕ) → IsLine s → lines_of (log_text s ++ 10 ∷ below) ≡ log_text s ∷ lines_of below }

@@ -1,5 +1,5 @@
 //! A line of a log as a line of JSON: one object with who made the step, what was done, what came of it, the value that the step
-//! shows and the message that was sent.
+//! shows, the message that was sent and the rows of the page that the step moved.
 #![tactic(auto)]
 
 pub mod faults;

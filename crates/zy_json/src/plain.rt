@@ -8,9 +8,9 @@ use zy_io::{Decimal, Line, LineBuffer, joined};
 use zy_isa::Actor;
 
 /// A step as a line of JSON, whose texts are made as they are written, without memory of their own. They stand there as they are:
-/// where no text has a control character, a `"` or a `\`, the line is that of `write`, and else it may be no JSON.
+/// where no text has a control character, a `"` or a `\`, the line is the step's line of JSON, and else it may be no JSON.
 #[derive(Clone, Copy)]
-pub struct PlainStep<D, C, S> {
+pub struct PlainStep<D, C, S, R> {
     /// Who made the step.
     pub actor: Actor,
     /// What the actor did.
@@ -21,15 +21,19 @@ pub struct PlainStep<D, C, S> {
     pub value: Option<u32>,
     /// The kind of the message that was sent; none, if the line names none.
     pub sent: Option<S>,
+    /// The rows of the page that the step moved; none, if the line says nothing of them.
+    pub rows: Option<R>,
 }
 
-impl<D: Line + Copy, C: Line + Copy, S: Line + Copy> Line for PlainStep<D, C, S> {
+impl<D: Line + Copy, C: Line + Copy, S: Line + Copy, R: Line + Copy> Line
+    for PlainStep<D, C, S, R> {
     ghost text = { λ s. plain_text (record {
       actor = s.actor;
       action = D.text s.action;
       came = option_map C.text s.came;
       value = s.value;
       sent = option_map S.text s.sent;
+      rows = option_map R.text s.rows;
     }) };
 
     fn append(&self, line: &mut LineBuffer) -> Result<(), AllocError> {
@@ -54,15 +58,17 @@ impl<T: Line + Copy> Line for PlainField<T> {
 
 /// The line of a `PlainStep` without the brace at its end: fields of other names may follow.
 #[derive(Clone, Copy)]
-pub struct PlainFields<D, C, S>(pub PlainStep<D, C, S>);
+pub struct PlainFields<D, C, S, R>(pub PlainStep<D, C, S, R>);
 
-impl<D: Line + Copy, C: Line + Copy, S: Line + Copy> Line for PlainFields<D, C, S> {
+impl<D: Line + Copy, C: Line + Copy, S: Line + Copy, R: Line + Copy> Line
+    for PlainFields<D, C, S, R> {
     ghost text = { λ f. plain_fields (record {
       actor = f.0.actor;
       action = D.text f.0.action;
       came = option_map C.text f.0.came;
       value = f.0.value;
       sent = option_map S.text f.0.sent;
+      rows = option_map R.text f.0.rows;
     }) };
 
     fn append(&self, line: &mut LineBuffer) -> Result<(), AllocError> {
@@ -76,6 +82,7 @@ impl<D: Line + Copy, C: Line + Copy, S: Line + Copy> Line for PlainFields<D, C, 
             PlainField(",\"came\":", step.came),
             Behind(",\"value\":", step.value.map(Decimal)),
             PlainField(",\"sent\":", step.sent),
+            PlainField(",\"rows\":", step.rows),
         )
         .append(line)
     }

@@ -193,12 +193,14 @@ fn step_in<'a>(members: &[(&'a str, Value<'a>)]) -> Result<JsonStep<'a>, JsonFau
     let came = part_of(Member::Came, members)?;
     let value = value_beside(came, members)?;
     let sent = part_of(Member::Sent, members)?;
+    let rows = part_of(Member::Rows, members)?;
     Ok(JsonStep {
         actor,
         action,
         came,
         value,
         sent,
+        rows,
     })
 }
 
@@ -232,14 +234,14 @@ fn fault_place(alloc: Global, line: &[u8]) -> Result<usize, AllocError>
     }
 }
 
-/// Reads a line of a log in JSON: one object with the fields `actor` and `do`, and with `came`, `value` and `sent` or without. Their
-/// order is free, and so is white space between the signs of JSON. A string may have escapes, and so may the name of a field.
+/// Reads a line of a log in JSON: one object with the fields `actor` and `do`, and with `came`, `value`, `sent` and `rows` or without.
+/// Their order is free, and so is white space between the signs of JSON. A string may have escapes, and so may the name of a field.
 ///
 /// A `value` is allowed only beside a `came` that is `did`. It is a number from 0 to 4294967295 written in digits alone: `7.0`, `7e0`
 /// and `-0` are rejected.
 ///
 /// Other fields are passed over, whatever their values are and however often they come, since a store logs more, as a time. So a
-/// name that is misspelled is passed over, too. One of the five fields is rejected if it comes twice, and so is one that is `null`:
+/// name that is misspelled is passed over, too. One of the six fields is rejected if it comes twice, and so is one that is `null`:
 /// where there is nothing to tell, it is left out.
 ///
 /// The texts of the step lie in the line or, where they have escapes, in `scratch`, which serves one line after the other.

@@ -19,6 +19,8 @@ pub struct JsonStep<'a> {
     pub value: Option<u32>,
     /// The kind of the message that was sent, as `pull`; none, if the line names none.
     pub sent: Option<&'a str>,
+    /// The rows of the page that the step moved, as `10=1 20=2`; none, if the line says nothing of them.
+    pub rows: Option<&'a str>,
 }
 
 /// A step as the line of a log that tells it, as `A run 0 -> did 7`.
@@ -65,6 +67,7 @@ impl Line for LogText<'_> {
             Behind(" -> ", step.came),
             Behind(" ", step.value.map(Decimal)),
             Behind(" ! ", step.sent),
+            Behind(" rows ", step.rows),
         )
         .append(line)
     }
