@@ -1,5 +1,5 @@
 -- The words of a listing, and each kind of its lines.
-use Rattle.std.specs.Prelude.{ℕ, ◌+◌, ◌==◌, Bool, true, false, List, [], ◌++◌, Option, Some, None, codes, position}
+use Rattle.std.specs.Prelude.{ℕ, ◌+◌, ◌==◌, Bool, true, false, List, [], ◌++◌, Option, Some, None, codes, drop, position}
 use Rattle.std.specs.Prelude.{slice_get}
 use Rattle.std.specs.Fmt.{decimal}
 use Rattle.std.specs.List.{flat_map}
@@ -115,12 +115,20 @@ step_text i e =
 abbrev pub mode_text : Node → NodeMode → List ℕ
 mode_text n m = codes "mode " ++ (node_text n ++ (codes " " ++ mode_word m))
 
+-- K=V
+abbrev pub pair_text : Row → List ℕ
+pair_text r = decimal r.key ++ (codes "=" ++ decimal r.value)
+
 abbrev pub cell_text : Row → List ℕ
-cell_text r = codes " " ++ (decimal r.key ++ (codes "=" ++ decimal r.value))
+cell_text r = codes " " ++ pair_text r
 
 -- ` K=V` for each row
 abbrev pub rows_text : List Row → List ℕ
 rows_text rows = flat_map cell_text rows
+
+-- the same without the blank in front
+abbrev pub row_words : List Row → List ℕ
+row_words rows = drop 1 (rows_text rows)
 
 -- a page and where it is
 abbrev pub leaf_text : Place → Leaf → List ℕ

@@ -6,7 +6,7 @@ pub mod locked;
 pub mod mode;
 pub mod node;
 pub mod page;
-mod rows;
+pub mod rows;
 pub mod serial;
 pub mod step;
 pub(crate) mod taken;

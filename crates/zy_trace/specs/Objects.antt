@@ -7,7 +7,7 @@ use Rattle.zy_isa.specs.declared.choice.Choice.{Choice}
 use Rattle.zy_isa.specs.declared.choice.Choice.TheVariants.{Start, Begin, Kill, Run, Take, Finish, Push}
 use Rattle.zy_isa.specs.Choices.{actor_of}
 use Rattle.zy_table.specs.declared.observation.Observation.{Observation}
-use Rattle.zy_listing.specs.Texts.{kind_text, outcome_text}
+use Rattle.zy_listing.specs.Texts.{kind_text, outcome_text, row_words}
 use Rattle.zy_json.specs.Steps.{Step}
 use Rattle.zy_json.specs.Plain.{plain_fields, plain_text}
 
@@ -29,6 +29,7 @@ told_of o = record {
   came = Some (outcome_text o.entry.outcome);
   value = o.value;
   sent = option_map kind_text o.entry.sent;
+  rows = option_map row_words o.rows;
 }
 
 -- the object of a step

@@ -1,13 +1,14 @@
 //! What a step of a run shows as an object of JSON, which is a line of a log.
-ghost use Rattle.std.specs.Prelude.{◌≡◌, drop};
+ghost use Rattle.std.specs.Prelude.{◌≡◌, drop, option_map};
 ghost use Rattle.zy_json.specs.Plain.{plain_fields};
+ghost use Rattle.zy_listing.specs.Texts.{kind_text, row_words};
 ghost use Rattle.zy_trace.specs.Objects.{action_text, listed_text, object_text, told_of};
 
 use std::alloc::AllocError;
 use zy_io::{Decimal, Line, LineBuffer, joined};
 use zy_isa::Choice;
 use zy_json::{PlainFields, PlainStep};
-use zy_listing::{KindText, OutcomeText};
+use zy_listing::{KindText, OutcomeText, RowWords};
 use zy_table::Observation;
 
 /// What is done of a choice, without who does it.
@@ -30,6 +31,23 @@ impl Line for ActionText {
     }
 }
 
+/// The kind of the message that a step sent.
+fn sent_kind(step: &Observation) -> Option<KindText>
+    ensures { option_map (λ k. kind_text k.0) result ≡ option_map kind_text step.now.entry.sent }
+{
+    step.entry.sent.map(KindText)
+}
+
+/// The rows of the page that a step moved.
+fn moved_rows(step: &Observation) -> Option<RowWords<'_>>
+    ensures { option_map (λ r. row_words r.0.now) result ≡ option_map row_words step.entry.now.rows }
+{
+    match &step.rows {
+        Some(rows) => Some(RowWords(rows.as_slice())),
+        None => None,
+    }
+}
+
 /// The fields of a step's object: all that a log can tell of the step.
 #[derive(Clone, Copy)]
 struct StepFields<'a>(&'a Observation);
@@ -38,13 +56,14 @@ impl Line for StepFields<'_> {
     ghost text = { λ s. plain_fields (told_of s.0.now) };
 
     fn append(&self, line: &mut LineBuffer) -> Result<(), AllocError> {
-        let Observation { entry, value } = *self.0;
+        let entry = self.0.entry;
         let object = PlainStep {
             actor: entry.choice.actor(),
             action: ActionText(entry.choice),
             came: Some(OutcomeText(entry.outcome)),
-            value,
-            sent: entry.sent.map(KindText),
+            value: self.0.value,
+            sent: sent_kind(self.0),
+            rows: moved_rows(self.0),
         };
         PlainFields(object).append(line)
     }

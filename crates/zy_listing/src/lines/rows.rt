@@ -1,11 +1,27 @@
 //! Rows and registers, as they are at the end of a line.
-ghost use Rattle.zy_listing.specs.Texts.{cell_text, reg_text, regs_text, rows_text};
+ghost use Rattle.zy_listing.specs.Texts.{cell_text, pair_text, reg_text, regs_text, row_words, rows_text};
 
 use std::alloc::AllocError;
-use zy_io::{Decimal, Line, LineBuffer, joined};
+use zy_io::{Decimal, Line, LineBuffer, Piece, joined};
 use zy_isa::Row;
 
-/// One row.
+/// The key and the value of a row.
+#[derive(Clone, Copy)]
+struct Pair(Row);
+
+impl Piece for Pair {
+    ghost text = { λ p. pair_text p.0 };
+
+    ghost most = { 41 };
+
+    #[inline(always)]
+    fn put_behind(self, bytes: Vec<u8>) -> Vec<u8> {
+        let Row { key, value } = self.0;
+        joined!(Decimal(key), b"=", Decimal(value)).put_behind(bytes)
+    }
+}
+
+/// One row, behind a blank.
 #[derive(Clone, Copy)]
 struct Cell(Row);
 
@@ -14,12 +30,11 @@ impl Line for Cell {
 
     #[inline(always)]
     fn append(&self, line: &mut LineBuffer) -> Result<(), AllocError> {
-        let Row { key, value } = self.0;
-        line.push_piece(joined!(b" ", Decimal(key), b"=", Decimal(value)))
+        line.push_piece(joined!(b" ", Pair(self.0)))
     }
 }
 
-/// Rows.
+/// Rows, each behind a blank.
 #[derive(Clone, Copy)]
 pub(crate) struct Rows<'a>(pub &'a [Row]);
 
@@ -31,6 +46,24 @@ impl Line for Rows<'_> {
             Cell(*row).append(line)?;
         }
         Ok(())
+    }
+}
+
+/// Rows with a blank between.
+#[derive(Clone, Copy)]
+pub struct RowWords<'a>(pub &'a [Row]);
+
+impl Line for RowWords<'_> {
+    ghost text = { λ r. row_words r.0.now };
+
+    fn append(&self, line: &mut LineBuffer) -> Result<(), AllocError> {
+        match self.0 {
+            [] => Ok(()),
+            [first, more @ ..] => {
+                line.push_piece(Pair(*first))?;
+                Rows(more).append(line)
+            }
+        }
     }
 }
 
