@@ -6,6 +6,8 @@ use Rattle.std.specs.Option.{option_map}
 use Rattle.zy_isa.specs.declared.choice.Choice.{Choice}
 use Rattle.zy_isa.specs.declared.choice.Choice.TheVariants.{Start, Begin, Kill, Run, Take, Finish, Push}
 use Rattle.zy_isa.specs.Choices.{actor_of}
+use Rattle.zy_page.specs.declared.page_rows.PageRows.{PageRows}
+use Rattle.zy_page.specs.RowLists.{rows_in}
 use Rattle.zy_table.specs.declared.observation.Observation.{Observation}
 use Rattle.zy_listing.specs.Texts.{kind_text, outcome_text, row_words}
 use Rattle.zy_json.specs.Steps.{Step}
@@ -21,6 +23,10 @@ action_text (Take n) = codes "take"
 action_text (Finish n) = codes "finish"
 action_text (Push n) = codes "push"
 
+-- the words of the rows that a step shows
+abbrev pub moved_words : PageRows → List ℕ
+moved_words rows = row_words (rows_in rows)
+
 -- all that a log can tell of a step
 abbrev pub told_of : Observation → Step
 told_of o = record {
@@ -29,7 +35,7 @@ told_of o = record {
   came = Some (outcome_text o.entry.outcome);
   value = o.value;
   sent = option_map kind_text o.entry.sent;
-  rows = option_map row_words o.rows;
+  rows = option_map moved_words o.rows;
 }
 
 -- the object of a step

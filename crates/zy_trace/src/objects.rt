@@ -2,7 +2,7 @@
 ghost use Rattle.std.specs.Prelude.{◌≡◌, drop, option_map};
 ghost use Rattle.zy_json.specs.Plain.{plain_fields};
 ghost use Rattle.zy_listing.specs.Texts.{kind_text, row_words};
-ghost use Rattle.zy_trace.specs.Objects.{action_text, listed_text, object_text, told_of};
+ghost use Rattle.zy_trace.specs.Objects.{action_text, listed_text, moved_words, object_text, told_of};
 
 use std::alloc::AllocError;
 use zy_io::{Decimal, Line, LineBuffer, joined};
@@ -40,7 +40,7 @@ fn sent_kind(step: &Observation) -> Option<KindText>
 
 /// The rows of the page that a step moved.
 fn moved_rows(step: &Observation) -> Option<RowWords<'_>>
-    ensures { option_map (λ r. row_words r.0.now) result ≡ option_map row_words step.entry.now.rows }
+    ensures { option_map (λ r. row_words r.0.now) result ≡ option_map moved_words step.entry.now.rows }
 {
     match &step.rows {
         Some(rows) => Some(RowWords(rows.as_slice())),

@@ -36,7 +36,7 @@ impl Line for Cell {
 
 /// Rows, each behind a blank.
 #[derive(Clone, Copy)]
-pub(crate) struct Rows<'a>(pub &'a [Row]);
+pub struct Rows<'a>(pub &'a [Row]);
 
 impl Line for Rows<'_> {
     ghost text = { λ r. rows_text r.0.now };
