@@ -1,19 +1,24 @@
 -- A line that leaves nothing of what a step shows out is read as that.
-use Rattle.std.proofs.Common.{◌≡◌, ◌∙◌, ℕ, ◌^◌, ◌<◌, ◌≤◌, true, false, ◌==◌, nat_le, nat_lt, List, [], ◌∷◌, ◌++◌, length, codes, Some, None, Option}
-use Rattle.std.proofs.Common.{Bool, IfSome, Ok, refl, ap, arith, if◌then◌else◌}
+use Rattle.std.proofs.Common.{◌≡◌, ◌∙◌, ℕ, ◌^◌, ◌<◌, ◌≤◌, true, false, ◌==◌, nat_le, nat_lt, List, [], ◌∷◌, ◌++◌, ◌+◌, ◌-◌, drop, map, length, codes, Some, None, Option}
+use Rattle.std.proofs.Common.{Bool, IfSome, Result, Ok, Err, refl, ap, arith, if◌then◌else◌}
 use Rattle.std.specs.Fmt.{decimal}
+use Rattle.std.specs.List.{position_or_len}
+use Rattle.std.proofs.Math.Seq.{take-append_seam, drop-append-add}
 use Rattle.std.specs.Char.{is_ascii_digit}
 use Rattle.std.specs.Str.{all_ascii_digits}
 use Rattle.std.proofs.lemmas.Bool.{le-leb, lt-ltb}
+use Rattle.std.proofs.lemmas.List.{length-append}
 use borrow.Author.Tests.{tests}
-use Rattle.zy_isa.specs.Limits.{max_key, max_txns, max_value}
+use Rattle.zy_isa.specs.Limits.{max_cap, max_key, max_txns, max_value}
+use Rattle.zy_isa.specs.declared.row.Row.{Row}
+use Rattle.zy_isa.specs.Rows.{Rising, RowsFit, row}
 use Rattle.zy_isa.specs.declared.node.Node.{Node}
 use Rattle.zy_isa.specs.declared.node.Node.TheVariants.{A, B}
 use Rattle.zy_isa.specs.declared.choice.Choice.{Choice}
 use Rattle.zy_isa.specs.declared.choice.Choice.TheVariants.{Start, Begin, Kill, Run, Take, Finish, Push}
 use Rattle.zy_isa.specs.Choices.{names_below}
 use Rattle.zy_isa.specs.Results.{◌>>=◌}
-use Rattle.zy_isa.proofs.ResultLemmas.{both}
+use Rattle.zy_isa.proofs.ResultLemmas.{both, neither}
 use Rattle.zy_model.specs.declared.kind.Kind.{Kind}
 use Rattle.zy_model.specs.declared.kind.Kind.TheVariants as kind
 use Rattle.zy_table.specs.declared.observation.Observation.{Observation}
@@ -36,13 +41,16 @@ use Rattle.zy_logs.specs.declared.expected.ExpectedInLog.TheVariants as expected
 use Rattle.zy_logs.specs.declared.log_line.LogLine.{LogLine}
 use Rattle.zy_logs.specs.declared.log_line.Logged.TheVariants.{Step}
 use Rattle.zy_logs.specs.declared.txns.Txns.{Txns}
-use Rattle.zy_logs.specs.InFull.{in_full, IsPage, HasPage, IsTold, IsShown, reason_words, outcome_words, value_words, sent_words, step_words}
-use Rattle.zy_logs.specs.Words.{Word, Read, after, are_none, begin_with, end_outcome, refused, gives, made}
+use Rattle.zy_logs.specs.declared.reading.cursor.Misfit.{Misfit}
+use Rattle.zy_logs.specs.InFull.{in_full, IsPage, HasPage, IsTold, IsShown, AreRows, AreShown, reason_words, outcome_words, value_words, sent_words}
+use Rattle.zy_logs.specs.InFull.{row_word, rows_words, shown_words, step_words}
+use Rattle.zy_logs.specs.Words.{Word, Read, after, are_none, begin_with, message_or_end, end_outcome, stop, refused, gives, made}
 use Rattle.zy_logs.specs.Txns.{named}
-use Rattle.zy_logs.specs.Parts.{or_none, number, page, place, value, numbered, txn, node_at, reason}
+use Rattle.zy_logs.specs.Parts.{or_none, number_in, page, place, value, numbered, txn, node_at, reason}
 use Rattle.zy_logs.specs.Lines as line
-use Rattle.zy_logs.specs.Lines.{split, outcome_of, choice_of, possible, told_of, logged, is_did, value_behind, message, sent_of, whole, gap_or_step, placed, line_of}
-use Rattle.zy_logs.specs.Possible.{can_give}
+use Rattle.zy_logs.specs.Lines.{split, outcome_of, choice_of, possible, told_of, logged, is_did, value_behind, sent_of, some_rows, rows_of, whole, placed, line_of}
+use Rattle.zy_logs.specs.Possible.{can_give, can_have_rows}
+use Rattle.zy_logs.specs.Rows.{row_cut, sign_of, fitting, onto, rows_from}
 use Rattle.zy_text.proofs.WordLemmas.{number_of-decimal, digits_of, decimal_some}
 
 -- opens the definitions of what words begin with
@@ -61,30 +69,33 @@ are_numeral : (w : Word) → Digits w → is_numeral w ≡ true
 are_numeral [] d = absurd (omega (arith, d.0))
 are_numeral (b ∷ bs) d = (both (is_ascii_digit b) (all_ascii_digits bs) d.1).0
 
--- a digit is no `!`
-no_mark : (b : ℕ) → is_ascii_digit b ≡ true → (b == 33) ≡ false
-no_mark b h = grind (arith, tests)
+-- a digit is no `!`, no `r` and no `=`
+no_mark : (b : ℕ) → is_ascii_digit b ≡ true → ((b == 33) ≡ false) × ((b == 114) ≡ false) × ((b == 61) ≡ false)
+no_mark b h = (grind (arith, tests), grind (arith, tests), grind (arith, tests))
 
 -- so an outcome does not end before it
 goes_on : (w : Word) (ws : List Word) → Digits w → end_outcome (w ∷ ws) ≡ false
 goes_on [] ws d = absurd (omega (arith, d.0))
-goes_on (b ∷ bs) ws d = rw (no_mark b (both (is_ascii_digit b) (all_ascii_digits bs) d.1).0) refl
+goes_on (b ∷ bs) ws d = let m = no_mark b (both (is_ascii_digit b) (all_ascii_digits bs) d.1).0 in rw (m.0, m.1) refl
+
+-- nor does a transaction's place
+names_on : (w : Word) (ws : List Word) → Digits w → message_or_end (w ∷ ws) ≡ false
+names_on w ws d = (neither (message_or_end (w ∷ ws)) (begin_with (codes "rows") (w ∷ ws)) (goes_on w ws d)).0
 
 -- the digits of a number of 32 bits
 decimal_digits : (n : ℕ) → n < 2 ^ 32 → Digits (decimal n)
 decimal_digits n h = (decimal_some n h, digits_of n h)
 
--- a part that is read where an outcome does not end
-given : {T : Type 0} (part : List Word → Read T) (ws rest : List Word) (x : T) → end_outcome ws ≡ false → part ws ≡ Ok (x, rest)
-    → or_none part ws ≡ Ok (Some x, rest)
-given part ws rest x e h = ap (λ b. if b then Ok (None, ws) else made Some (part ws)) e ∙ ap (made Some) h
+-- a part that is read where it is not left out
+given : {T : Type 0} (none : Bool) (part : List Word → Read T) (ws rest : List Word) (x : T) → none ≡ false → part ws ≡ Ok (x, rest)
+    → (if none then Ok (None, ws) else made Some (part ws)) ≡ Ok (Some x, rest)
+given none part ws rest x e h = ap (λ b. if b then Ok (None, ws) else made Some (part ws)) e ∙ ap (made Some) h
 
 -- a number that is small enough
-number_given : (most n : ℕ) (w : Word) (rest : List Word) → number_of w ≡ Some n → n ≤ most → number most (w ∷ rest) ≡ Ok (n, rest)
-number_given most n w rest e h =
-    let ws = w ∷ rest in
+number_given : (most n : ℕ) (part : Word) (ws : List Word) → number_of part ≡ Some n → n ≤ most → number_in most part ws ≡ Ok (n, after ws)
+number_given most n part ws e h =
     let after_digits : Option ℕ → Read ℕ = λ o. gives o expected.Number ws >>= λ m. if nat_le m.0 most then Ok m else refused (expected.AtMost most) ws in
-    ap after_digits e ∙ ap (λ b. if b then Ok (n, rest) else refused (expected.AtMost most) ws) (le-leb n most h)
+    ap after_digits e ∙ ap (λ b. if b then Ok (n, after ws) else refused (expected.AtMost most) ws) (le-leb n most h)
 
 -- the number of a transaction that there is
 numbered_given : (count t : ℕ) (w : Word) (rest : List Word) → number_of w ≡ Some t → t < count → numbered count (w ∷ rest) ≡ Ok (t, rest)
@@ -97,15 +108,15 @@ numbered_given count t w rest e h =
 page_given : (p : ℕ) (rest : List Word) → IsPage p → or_none page (decimal p ∷ rest) ≡ Ok (Some p, rest)
 page_given p rest h =
     let few : p < 2 ^ 32 = omega (arith, h) in
-    given page (decimal p ∷ rest) rest p (goes_on (decimal p) rest (decimal_digits p few))
-    (number_given max_key p (decimal p) rest (number_of-decimal p few) h)
+    given _ page (decimal p ∷ rest) rest p (goes_on (decimal p) rest (decimal_digits p few))
+    (number_given max_key p (decimal p) (decimal p ∷ rest) (number_of-decimal p few) h)
 
 -- the number of a commit
 place_given : (i : ℕ) (rest : List Word) → i ≤ max_txns → or_none place (decimal i ∷ rest) ≡ Ok (Some i, rest)
 place_given i rest h =
     let few : i < 2 ^ 32 = omega (arith, h) in
-    given place (decimal i ∷ rest) rest i (goes_on (decimal i) rest (decimal_digits i few))
-    (number_given max_txns i (decimal i) rest (number_of-decimal i few) h)
+    given _ place (decimal i ∷ rest) rest i (goes_on (decimal i) rest (decimal_digits i few))
+    (number_given max_txns i (decimal i) (decimal i ∷ rest) (number_of-decimal i few) h)
 
 -- a transaction by its number
 txn_given : (txns : Txns) (t : ℕ) (rest : List Word) → txns.count ≤ 64 → t < txns.count → txn txns (decimal t ∷ rest) ≡ Ok (t, rest)
@@ -184,7 +195,7 @@ outcome_given txns outcome.Stray rest most h = refl
 outcome_given txns outcome.Finishing rest most h = refl
 outcome_given txns (outcome.Active t) rest most h =
     let few : t < 2 ^ 32 = omega (arith, most, h) in
-    ap (made pattern.Active) (given (txn txns) (decimal t ∷ rest) rest t (goes_on (decimal t) rest (decimal_digits t few)) (txn_given txns t rest most h))
+    ap (made pattern.Active) (given _ (txn txns) (decimal t ∷ rest) rest t (names_on (decimal t) rest (decimal_digits t few)) (txn_given txns t rest most h))
 outcome_given txns (outcome.Pushed p) rest most h = paged_given paged.Pushed p rest h
 outcome_given txns outcome.NoPush rest most h = refl
 
@@ -266,57 +277,128 @@ told_given txns c o rest most h can =
     ap (λ b. if b then Ok (None, after ws) else made Some (possible txns c ws)) (known o rest)
     ∙ ap (made Some) (possible_given txns c o rest most h can)
 
+-- a line of the choice may tell the rows, if there are any
+abbrev MayTell : Choice → Option (List Row) → Type 0
+MayTell c o = IfSome o (λ rows. (can_have_rows c ≡ true) × AreRows rows)
+
 -- the message that was sent
-sent_given : (k : Option Kind) → sent_of (sent_words k) ≡ Ok (k, [])
+sent_given : (c : Choice) (k : Option Kind) (rows : Option (List Row)) → MayTell c rows
+    → sent_of c (sent_words k ++ rows_words rows) ≡ Ok (k, rows_words rows)
 unfolding open_all
-sent_given None = refl
-sent_given (Some kind.Wire) = refl
-sent_given (Some kind.Ready) = refl
-sent_given (Some kind.Dual) = refl
-sent_given (Some kind.Pull) = refl
-sent_given (Some kind.Page) = refl
-sent_given (Some kind.Finish) = refl
-sent_given (Some kind.Done) = refl
+sent_given c None None h = refl
+sent_given c None (Some rows) h =
+    let ws = rows_words (Some rows) in
+    ap (λ b. if b then Ok (None, ws) else refused (expected.AfterOutcome c) ws) h.0
+sent_given c (Some kind.Wire) rows h = refl
+sent_given c (Some kind.Ready) rows h = refl
+sent_given c (Some kind.Dual) rows h = refl
+sent_given c (Some kind.Pull) rows h = refl
+sent_given c (Some kind.Page) rows h = refl
+sent_given c (Some kind.Finish) rows h = refl
+sent_given c (Some kind.Done) rows h = refl
 
 -- no value comes before it
-no_value : (did : Bool) (k : Option Kind) → (if did then or_none value (sent_words k) else Ok (None, sent_words k)) ≡ Ok (None, sent_words k)
-no_value true None = refl
-no_value true (Some k) = refl
-no_value false k = refl
+no_value : (did : Bool) (k : Option Kind) (rows : Option (List Row)) → let ws = sent_words k ++ rows_words rows in
+    (if did then or_none value ws else Ok (None, ws)) ≡ Ok (None, ws)
+no_value true None None = refl
+no_value true None (Some rows) = refl
+no_value true (Some k) rows = refl
+no_value false k rows = refl
 
 -- the value, which only `did` has
-value_given : (o : Outcome) (v : Option ℕ) (k : Option Kind) → IfSome v (λ n. (n ≤ max_value) × (o ≡ outcome.Did))
-    → value_behind (Some (exactly o)) (value_words v ++ sent_words k) ≡ Ok (v, sent_words k)
-value_given o None k h = no_value (is_did (Some (exactly o))) k
-value_given o (Some n) k h =
-    let rest = sent_words k in
+value_given : (o : Outcome) (v : Option ℕ) (k : Option Kind) (rows : Option (List Row)) → IfSome v (λ n. (n ≤ max_value) × (o ≡ outcome.Did))
+    → value_behind (Some (exactly o)) (value_words v ++ (sent_words k ++ rows_words rows)) ≡ Ok (v, sent_words k ++ rows_words rows)
+value_given o None k rows h = no_value (is_did (Some (exactly o))) k rows
+value_given o (Some n) k rows h =
+    let rest = sent_words k ++ rows_words rows in
     let few : n < 2 ^ 32 = omega (arith, h.0) in
     ap (λ came. value_behind (Some (exactly came)) (decimal n ∷ rest)) h.1
-    ∙ given value (decimal n ∷ rest) rest n (goes_on (decimal n) rest (decimal_digits n few))
-    (number_given max_value n (decimal n) rest (number_of-decimal n few) h.0)
+    ∙ given _ value (decimal n ∷ rest) rest n (goes_on (decimal n) rest (decimal_digits n few))
+    (number_given max_value n (decimal n) (decimal n ∷ rest) (number_of-decimal n few) h.0)
+
+-- ---- rows
+
+-- `=` behind digits is at their end
+sign_place : (ds vs : List ℕ) → all_ascii_digits ds ≡ true → position_or_len (λ b. b == 61) (ds ++ 61 ∷ vs) ≡ length ds
+sign_place [] vs h = refl
+sign_place (d ∷ ds) vs h =
+    let p = both (is_ascii_digit d) (all_ascii_digits ds) h in
+    rw (no_mark d p.0).2 (rw (sign_place ds vs p.1) (omega arith))
+
+-- so it is found there
+sign_given : (ds vs : List ℕ) → all_ascii_digits ds ≡ true → sign_of (ds ++ 61 ∷ vs) ≡ Some (length ds)
+sign_given ds vs h =
+    let w = ds ++ 61 ∷ vs in
+    ap (λ n. if nat_lt n (length w) then Some n else None) (sign_place ds vs h)
+    ∙ ap (λ b. if b then Some (length ds) else None) (lt-ltb (length ds) (length w) (omega (arith, length-append ds (61 ∷ vs))))
+
+-- a row is read as itself
+row_given : (r : Row) (ws : List Word) → r.key ≤ max_key → r.value ≤ max_value → row_cut (sign_of (row_word r)) (row_word r ∷ ws) ≡ Ok r
+row_given r rest h i =
+    let few : r.key < 2 ^ 32 = omega (arith, h) in
+    let ws = row_word r ∷ rest in
+    let ks = decimal r.key in
+    let vs = decimal r.value in
+    let second : Word → ℕ × List Word → Result Row Misfit = λ part k. number_in max_value part ws >>= λ v. Ok (row k.0 v.0) in
+    ap (λ o. row_cut o ws) (sign_given ks vs (digits_of r.key few))
+    ∙ ap (λ part. number_in max_key part ws >>= second (drop (length ks + 1) (row_word r))) (take-append_seam ks (61 ∷ vs))
+    ∙ ap (λ k. k >>= second (drop (length ks + 1) (row_word r))) (number_given max_key r.key ks ws (number_of-decimal r.key few) h)
+    ∙ ap (λ part. second part (r.key, rest)) (drop-append-add ks (61 ∷ vs) 1)
+    ∙ ap (λ v. v >>= λ x. Ok (row r.key x.0)) (number_given max_value r.value vs ws (number_of-decimal r.value (omega (arith, i))) i)
+
+-- one that may come next
+fitting_given : (low room : ℕ) (ws : List Word) (r : Row) → low ≤ r.key → 0 < room → fitting low room ws r ≡ Ok r
+fitting_given low room ws r h k =
+    let is_low : nat_lt r.key low ≡ false = grind (arith, tests) in
+    let is_full : (room == 0) ≡ false = grind (arith, tests) in
+    ap (λ b. if b then Err (stop expected.HigherKey ws) else if room == 0 then Err (stop expected.FewerRows ws) else Ok r) is_low
+    ∙ ap (λ b. if b then Err (stop expected.FewerRows ws) else Ok r) is_full
+
+-- rows in order, for which there is room
+all_given : (low room : ℕ) (rows : List Row) → length rows ≤ room → Rising low rows → RowsFit rows → rows_from low room (map row_word rows) ≡ Ok rows
+all_given low room [] few rise fit = refl
+all_given low room (r ∷ rows) few rise fit =
+    let rest = map row_word rows in
+    let ws = row_word r ∷ rest in
+    let behind : Result Row Misfit → Result (List Row) Misfit = λ o. o >>= λ x. onto x (rows_from (x.key + 1) (room - 1) rest) in
+    ap (λ o. behind (o >>= fitting low room ws)) (row_given r rest (omega (arith, fit.0)) (omega (arith, fit.1)))
+    ∙ ap behind (fitting_given low room ws r rise.0 (omega (arith, few)))
+    ∙ ap (onto r) (all_given (r.key + 1) (room - 1) rows (omega (arith, few)) rise.1 fit.2)
+
+-- the rows, and nothing after them
+rows_given : (c : Choice) (rows : Option (List Row)) → MayTell c rows → rows_of c (rows_words rows) ≡ Ok rows
+rows_given c None h = refl
+rows_given c (Some rows) h =
+    let ws = rows_words (Some rows) in
+    ap (λ b. if b then some_rows (rows_from 0 max_cap (after ws)) else if are_none ws then Ok None else Err (stop (expected.AfterMessage c) ws)) h.0
+    ∙ ap some_rows (all_given 0 max_cap rows h.1.0 h.1.1.rise h.1.1.fit)
+
+-- ---- the whole line
 
 -- all of a step
 whole_given : (txns : Txns) (o : Observation) → txns.count ≤ 64 → names_below txns.count o.entry.choice ≡ true → IsTold txns.count o.entry.outcome
-    → can_give o.entry.choice (exactly o.entry.outcome) ≡ true → IsShown o → whole txns (step_words o) ≡ Ok (in_full o, [])
-whole_given txns o most named h can shown =
+    → can_give o.entry.choice (exactly o.entry.outcome) ≡ true → IsShown o → AreShown o → whole txns (step_words o) ≡ Ok (in_full o)
+whole_given txns o most named h can shown rows =
     let e = o.entry in
     let told = exactly e.outcome in
-    let last : Choice → Option OutcomePattern → Option ℕ → Read (Option Kind) → Read LogLine = λ c t v r. r >>= λ k.
-    if are_none k.1 then Ok (record { choice = c; told = t; value = v; sent = k.0 }, k.1) else refused expected.End k.1 in
-    let third : Choice → Option OutcomePattern → Read (Option ℕ) → Read LogLine = λ c t r. r >>= λ v. last c t v.0 (sent_of v.1) in
-    let second : Choice → Read (Option OutcomePattern) → Read LogLine = λ c r. r >>= λ t. third c t.0 (value_behind t.0 t.1) in
-    let all : Read Choice → Read LogLine = λ r. r >>= λ c. second c.0 (told_of txns c.0 c.1) in
-    let rest = value_words o.value ++ sent_words e.sent in
-    ap all (choice_given txns e.choice (codes "->" ∷ (outcome_words e.outcome ++ rest)) most named)
-    ∙ ap (second e.choice) (told_given txns e.choice e.outcome rest most h can)
-    ∙ ap (third e.choice (Some told)) (value_given e.outcome o.value e.sent shown)
-    ∙ ap (last e.choice (Some told) o.value) (sent_given e.sent)
+    let last : Choice → Option OutcomePattern → Option ℕ → Option Kind → Result (Option (List Row)) Misfit → Result LogLine Misfit = λ c t v k r.
+    r >>= λ rs. Ok (record { choice = c; told = t; value = v; sent = k; rows = rs }) in
+    let fourth : Choice → Option OutcomePattern → Option ℕ → Read (Option Kind) → Result LogLine Misfit = λ c t v r.
+    r >>= λ k. last c t v k.0 (rows_of c k.1) in
+    let third : Choice → Option OutcomePattern → Read (Option ℕ) → Result LogLine Misfit = λ c t r. r >>= λ v. fourth c t v.0 (sent_of c v.1) in
+    let second : Choice → Read (Option OutcomePattern) → Result LogLine Misfit = λ c r. r >>= λ t. third c t.0 (value_behind t.0 t.1) in
+    let all : Read Choice → Result LogLine Misfit = λ r. r >>= λ c. second c.0 (told_of txns c.0 c.1) in
+    ap all (choice_given txns e.choice (codes "->" ∷ (outcome_words e.outcome ++ shown_words o)) most named)
+    ∙ ap (second e.choice) (told_given txns e.choice e.outcome (shown_words o) most h can)
+    ∙ ap (third e.choice (Some told)) (value_given e.outcome o.value e.sent o.rows shown)
+    ∙ ap (fourth e.choice (Some told) o.value) (sent_given e.choice e.sent o.rows rows)
+    ∙ ap (last e.choice (Some told) o.value e.sent) (rows_given e.choice o.rows rows)
 
 -- the words of all that a step shows are a line of a log, which leaves nothing of it out
 pub step_given : (txns : Txns) (o : Observation) → txns.count ≤ 64 → names_below txns.count o.entry.choice ≡ true → IsTold txns.count o.entry.outcome
-    → can_give o.entry.choice (exactly o.entry.outcome) ≡ true → IsShown o → line_of txns (step_words o) ≡ Ok (Step (in_full o))
-step_given txns o most named h can shown =
+    → can_give o.entry.choice (exactly o.entry.outcome) ≡ true → IsShown o → AreShown o → line_of txns (step_words o) ≡ Ok (Step (in_full o))
+step_given txns o most named h can shown rows =
     let ws = step_words o in
-    ap (λ b. placed (length ws) (if b then line.gap ws else made Step (whole txns ws)))
-    (no_gap o.entry.choice (codes "->" ∷ (outcome_words o.entry.outcome ++ (value_words o.value ++ sent_words o.entry.sent))))
-    ∙ ap (λ r. placed (length ws) (made Step r)) (whole_given txns o most named h can shown)
+    ap (λ b. placed (length ws) (if b then line.gap ws else line.step (whole txns ws)))
+    (no_gap o.entry.choice (codes "->" ∷ (outcome_words o.entry.outcome ++ shown_words o)))
+    ∙ ap (λ r. placed (length ws) (line.step r)) (whole_given txns o most named h can shown rows)

@@ -3,3 +3,4 @@ pub mod PossibleSteps
 pub mod Worked
 pub mod FullLemmas
 mod ShownLemmas
+mod RowLemmas

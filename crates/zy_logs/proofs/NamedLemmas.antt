@@ -1,5 +1,5 @@
 -- Lines that are read name transactions that there are, and are no more than there may be.
-use Rattle.std.proofs.Common.{◌≡◌, ℕ, ◌+◌, ◌-◌, ◌≤◌, Bool, true, false, List, [], ◌∷◌, length, codes, refl, subst, inl, inr, arith}
+use Rattle.std.proofs.Common.{◌≡◌, ℕ, ◌+◌, ◌-◌, ◌≤◌, Bool, true, false, List, [], ◌∷◌, length, codes, refl, ap, subst, inl, inr, arith}
 use Rattle.std.specs.Prelude.{Option, Some, None, Result, Ok, Err, nat_le, nat_lt, if◌then◌else◌}
 use Rattle.std.specs.Option.{option_and_then}
 use Rattle.std.proofs.lemmas.Bool.{cases_Bool, leb-true}
@@ -11,7 +11,7 @@ use Rattle.zy_isa.specs.declared.choice.Choice.TheVariants as choice
 use Rattle.zy_isa.specs.Choices.{names_below}
 use Rattle.zy_isa.specs.Results.{◌>>=◌}
 use Rattle.zy_isa.specs.Scenario.{AreNamed}
-use Rattle.zy_model.specs.declared.kind.Kind.{Kind}
+use Rattle.zy_isa.proofs.ResultLemmas.{bind_ok}
 use Rattle.zy_text.specs.Words.{lines_of, words_of, number_of, is_numeral}
 use Rattle.zy_text.specs.Names.{is_name}
 use Rattle.zy_logs.specs.declared.expected.ExpectedInLog.TheVariants as expected
@@ -21,13 +21,13 @@ use Rattle.zy_logs.specs.declared.log_line.LogLine.{LogLine}
 use Rattle.zy_logs.specs.declared.log_line.Logged.{Logged}
 use Rattle.zy_logs.specs.declared.log_line.Logged.TheVariants.{Step, Gap}
 use Rattle.zy_logs.specs.declared.logs.NumberedLine.{NumberedLine}
-use Rattle.zy_patterns.specs.declared.patterns.OutcomePattern.{OutcomePattern}
+use Rattle.zy_logs.specs.declared.reading.cursor.Misfit.{Misfit}
 use Rattle.zy_logs.specs.declared.txns.Txns.{Txns}
-use Rattle.zy_logs.specs.Words.{Word, Read, first, after, are_none, begin_with, refused, gives, made}
+use Rattle.zy_logs.specs.Words.{Word, Read, first, after, are_none, begin_with, stop, refused, gives, made}
 use Rattle.zy_logs.specs.Txns.{below}
 use Rattle.zy_text.specs.Names.{place_among}
 use Rattle.zy_logs.specs.Parts.{txn}
-use Rattle.zy_logs.specs.Lines.{client_choice, node_choice, choice_of, told_of, value_behind, sent_of, whole, whose, gap_end, gap, gap_or_step, placed, line_of}
+use Rattle.zy_logs.specs.Lines.{client_choice, node_choice, choice_of, told_of, value_behind, sent_of, rows_of, step, whole, whose, gap_end, gap, gap_or_step, placed, line_of}
 use Rattle.zy_logs.specs.Logs.{in_line, steps_of, steps_in, fitting, line_at, listed, joined, lines_from, logs_of, choices_of}
 
 -- ---- the number of a transaction
@@ -117,79 +117,75 @@ named_choice txns ws =
 -- ---- a line
 
 -- a line that is read has a choice that names a transaction below count
-abbrev ReadNamed : ℕ → Read LogLine → Type 0
-ReadNamed count (Ok x) = names_below count x.0.choice ≡ true
+abbrev ReadNamed : ℕ → Result LogLine Misfit → Type 0
+ReadNamed count (Ok line) = names_below count line.choice ≡ true
 ReadNamed count (Err s) = Unit {0}
 
--- what is made of the parts of a line, where nothing comes after them
-abbrev ended : Choice → Option OutcomePattern → Option ℕ → (Option Kind) × List Word → Read LogLine
-ended c t v k = if are_none k.1 then Ok (record { choice = c; told = t; value = v; sent = k.0 }, k.1) else refused expected.End k.1
+-- the choice of a line, if it was read
+abbrev chosen : Choice → Result LogLine Misfit → Choice
+chosen c (Ok line) = line.choice
+chosen c (Err s) = c
 
--- the parts after the choice do not change it
-named_ended : (count : ℕ) (c : Choice) (t : Option OutcomePattern) (v : Option ℕ) (k : (Option Kind) × List Word) → names_below count c ≡ true
-    → ReadNamed count (ended c t v k)
-named_ended count c t v k e = elim (are_none k.1) as (λ (b : Bool). ReadNamed count
-    (if b then Ok (record { choice = c; told = t; value = v; sent = k.0 }, k.1) else refused expected.End k.1)) [ true ↦ e | false ↦ tt ]
+-- the choice of a line that is read is the one that its words spell
+choice_read : (txns : Txns) (ws : List Word) (line : LogLine) → whole txns ws ≡ Ok line
+    → (c : Choice × List Word) × (choice_of txns ws ≡ Ok c) × (c.0 ≡ line.choice)
+choice_read txns ws line e =
+    let c = bind_ok (choice_of txns ws) _ line e in
+    let t = bind_ok (told_of txns c.0.0 c.0.1) _ line c.2 in
+    let v = bind_ok (value_behind t.0.0 t.0.1) _ line t.2 in
+    let k = bind_ok (sent_of c.0.0 v.0.1) _ line v.2 in
+    let r = bind_ok (rows_of c.0.0 k.0.1) _ line k.2 in
+    (c.0, c.1, ap (chosen c.0.0) r.2)
 
-named_sent : (count : ℕ) (c : Choice) (t : Option OutcomePattern) (v : Option ℕ) (r : Read (Option Kind)) → names_below count c ≡ true
-    → ReadNamed count (r >>= ended c t v)
-named_sent count c t v (Ok k) e = named_ended count c t v k e
-named_sent count c t v (Err s) e = tt
+-- so it names a transaction below count
+named_whole : (txns : Txns) (ws : List Word) (line : LogLine) → whole txns ws ≡ Ok line → names_below txns.count line.choice ≡ true
+named_whole txns ws line e =
+    let c = choice_read txns ws line e in
+    subst (λ d. names_below txns.count d ≡ true) c.2 (subst (Named txns.count) c.1 (named_choice txns ws))
 
-named_value : (count : ℕ) (c : Choice) (t : Option OutcomePattern) (r : Read (Option ℕ)) → names_below count c ≡ true
-    → ReadNamed count (r >>= λ v. sent_of v.1 >>= ended c t v.0)
-named_value count c t (Ok v) e = named_sent count c t v.0 (sent_of v.1) e
-named_value count c t (Err s) e = tt
-
-named_told : (count : ℕ) (c : Choice) (r : Read (Option OutcomePattern)) → names_below count c ≡ true
-    → ReadNamed count (r >>= λ t. value_behind t.0 t.1 >>= λ v. sent_of v.1 >>= ended c t.0 v.0)
-named_told count c (Ok t) e = named_value count c t.0 (value_behind t.0 t.1) e
-named_told count c (Err s) e = tt
-
-named_whole : (txns : Txns) (r : Read Choice) → Named txns.count r
-    → ReadNamed txns.count (r >>= λ c. told_of txns c.0 c.1 >>= λ t. value_behind t.0 t.1 >>= λ v. sent_of v.1 >>= ended c.0 t.0 v.0)
-named_whole txns (Ok c) e = named_told txns.count c.0 (told_of txns c.0 c.1) e
-named_whole txns (Err s) e = tt
+read_named : (count : ℕ) (r : Result LogLine Misfit) → ((line : LogLine) → r ≡ Ok line → names_below count line.choice ≡ true) → ReadNamed count r
+read_named count (Ok line) h = h line refl
+read_named count (Err s) h = tt
 
 -- what is read names one below count, if it is a step
 abbrev LoggedNamed : ℕ → Logged → Type 0
 LoggedNamed count (Step line) = names_below count line.choice ≡ true
 LoggedNamed count (Gap x) = Unit {0}
 
-abbrev ReadsNamed : ℕ → Read Logged → Type 0
-ReadsNamed count (Ok x) = LoggedNamed count x.0
+abbrev ReadsNamed : ℕ → Result Logged Misfit → Type 0
+ReadsNamed count (Ok x) = LoggedNamed count x
 ReadsNamed count (Err s) = Unit {0}
 
 -- one of two
-reads_either : (count : ℕ) (b : Bool) (x y : Read Logged) → ReadsNamed count x → ReadsNamed count y → ReadsNamed count (if b then x else y)
+reads_either : (count : ℕ) (b : Bool) (x y : Result Logged Misfit) → ReadsNamed count x → ReadsNamed count y → ReadsNamed count (if b then x else y)
 reads_either count true x y left right = left
 reads_either count false x y left right = right
 
 -- a gap names none
 named_gap_end : (count : ℕ) (x : Actor) (ws : List Word) → ReadsNamed count (gap_end x ws)
-named_gap_end count x ws = reads_either count (are_none ws) (Ok (Gap x, ws)) (refused expected.EndOfGap ws) tt tt
+named_gap_end count x ws = reads_either count (are_none ws) (Ok (Gap x)) (Err (stop expected.EndOfGap ws)) tt tt
 
 named_gap : (count : ℕ) (r : Read Actor) → ReadsNamed count (r >>= λ x. gap_end x.0 (after x.1))
 named_gap count (Ok x) = named_gap_end count x.0 (after x.1)
 named_gap count (Err s) = tt
 
 -- a step does
-named_step : (count : ℕ) (r : Read LogLine) → ReadNamed count r → ReadsNamed count (made Step r)
+named_step : (count : ℕ) (r : Result LogLine Misfit) → ReadNamed count r → ReadsNamed count (step r)
 named_step count (Ok x) e = e
 named_step count (Err s) e = tt
 
 -- so does what is read in all
 named_read : (txns : Txns) (ws : List Word) → ReadsNamed txns.count (gap_or_step txns ws)
-named_read txns ws = reads_either txns.count (begin_with (codes "...") (after ws)) (gap ws) (made Step (whole txns ws))
+named_read txns ws = reads_either txns.count (begin_with (codes "...") (after ws)) (gap ws) (step (whole txns ws))
     (named_gap txns.count (whose ws))
-    (named_step txns.count (whole txns ws) (named_whole txns (choice_of txns ws) (named_choice txns ws)))
+    (named_step txns.count (whole txns ws) (read_named txns.count (whole txns ws) (named_whole txns ws)))
 
 -- so does one whose fault has a place
 abbrev LineNamed : ℕ → Result Logged Misread → Type 0
 LineNamed count (Ok logged) = LoggedNamed count logged
 LineNamed count (Err e) = Unit {0}
 
-named_placed : (count size : ℕ) (r : Read Logged) → ReadsNamed count r → LineNamed count (placed size r)
+named_placed : (count size : ℕ) (r : Result Logged Misfit) → ReadsNamed count r → LineNamed count (placed size r)
 named_placed count size (Ok x) e = e
 named_placed count size (Err s) e = tt
 

@@ -3,7 +3,9 @@ use Rattle.std.proofs.Common.{◌≡◌, true, ℕ, ◌++◌, List, [], ◌∷�
 use Rattle.std.specs.Fmt.{digits}
 use Rattle.zy_isa.specs.declared.node.Node.TheVariants.{A, B}
 use Rattle.zy_isa.specs.declared.node.Actor.TheVariants as actor
-use Rattle.zy_isa.specs.declared.choice.Choice.TheVariants.{Take, Push, Run, Begin, Kill}
+use Rattle.zy_isa.specs.declared.choice.Choice.TheVariants.{Take, Push, Finish, Run, Begin, Kill}
+use Rattle.zy_isa.specs.declared.row.Row.{Row}
+use Rattle.zy_isa.specs.Rows.{row}
 use Rattle.zy_model.specs.declared.kind.Kind.TheVariants as message
 use Rattle.zy_table.specs.declared.observation.Observation.{Observation}
 use Rattle.zy_table.specs.declared.outcome.Outcome.TheVariants as outcome
@@ -31,23 +33,23 @@ open_all = 0
 module _ (txns : Txns) where
   -- a choice, its outcome and a message
   takes : line_of txns (words_of (codes "A take -> got ready ! dual"))
-      ≡ Ok (Step (record { choice = Take A; told = Some pattern.GotReady; value = None; sent = Some message.Dual }))
+      ≡ Ok (Step (record { choice = Take A; told = Some pattern.GotReady; value = None; sent = Some message.Dual; rows = None }))
   unfolding open_all
   takes = refl
 
   -- a choice alone
-  alone : line_of txns (words_of (codes "  B take ; nothing was logged")) ≡ Ok (Step (record { choice = Take B; told = None; value = None; sent = None }))
+  alone : line_of txns (words_of (codes "  B take ; nothing was logged")) ≡ Ok (Step (record { choice = Take B; told = None; value = None; sent = None; rows = None }))
   unfolding open_all
   alone = refl
 
   -- what came was not logged, and a message was
-  unknown : line_of txns (words_of (codes "B push -> ? ! page")) ≡ Ok (Step (record { choice = Push B; told = None; value = None; sent = Some message.Page }))
+  unknown : line_of txns (words_of (codes "B push -> ? ! page")) ≡ Ok (Step (record { choice = Push B; told = None; value = None; sent = Some message.Page; rows = None }))
   unfolding open_all
   unknown = refl
 
   -- the number is left out before a message
   without_page : line_of txns (words_of (codes "B push -> pushed ! page"))
-      ≡ Ok (Step (record { choice = Push B; told = Some (pattern.Pushed None); value = None; sent = Some message.Page }))
+      ≡ Ok (Step (record { choice = Push B; told = Some (pattern.Pushed None); value = None; sent = Some message.Page; rows = None }))
   unfolding open_all
   without_page = refl
 
@@ -62,7 +64,7 @@ module _ (txns : Txns) where
   no_step = refl
 
   -- `take` has no number behind it
-  no_number : line_of txns (words_of (codes "A take 3")) ≡ Err (record { word = 2; expected = expected.AfterChoice })
+  no_number : line_of txns (words_of (codes "A take 3")) ≡ Err (record { word = 2; expected = expected.AfterChoice (Take A) })
   unfolding open_all
   no_number = refl
 
@@ -73,25 +75,25 @@ module _ (txns : Txns) where
 
   -- a transaction by its number
   begins : txns.count ≡ 1 → line_of txns (words_of (codes "C begin 0 -> began A"))
-      ≡ Ok (Step (record { choice = Begin 0; told = Some (pattern.Began (Some A)); value = None; sent = None }))
+      ≡ Ok (Step (record { choice = Begin 0; told = Some (pattern.Began (Some A)); value = None; sent = None; rows = None }))
   unfolding open_all
   begins one = rw one refl
 
   -- and by its name; the number of the commit is left out
   commits : txns.count ≡ 1 → place_among txns.names.now (codes "transfer") ≡ Some 0 → line_of txns (words_of (codes "A run transfer -> committed"))
-      ≡ Ok (Step (record { choice = Run A 0; told = Some (pattern.Committed None); value = None; sent = None }))
+      ≡ Ok (Step (record { choice = Run A 0; told = Some (pattern.Committed None); value = None; sent = None; rows = None }))
   unfolding open_all
   commits one known = rw (known, one) refl
 
   -- `did` and its value, up to the greatest
   value : txns.count ≡ 1 → line_of txns (words_of (codes "A run 0 -> did 4294967295"))
-      ≡ Ok (Step (record { choice = Run A 0; told = Some pattern.Did; value = Some 4294967295; sent = None }))
+      ≡ Ok (Step (record { choice = Run A 0; told = Some pattern.Did; value = Some 4294967295; sent = None; rows = None }))
   unfolding open_all
   value one = rw one refl
 
   -- the value is left out before a message
   without_value : txns.count ≡ 1 → line_of txns (words_of (codes "A run 0 -> did ! pull"))
-      ≡ Ok (Step (record { choice = Run A 0; told = Some pattern.Did; value = None; sent = Some message.Pull }))
+      ≡ Ok (Step (record { choice = Run A 0; told = Some pattern.Did; value = None; sent = Some message.Pull; rows = None }))
   unfolding open_all
   without_value one = rw one refl
 
@@ -107,23 +109,119 @@ module _ (txns : Txns) where
   no_value one = rw one refl
 
   -- there is one alone
-  two_values : txns.count ≡ 1 → line_of txns (words_of (codes "A run 0 -> did 7 8")) ≡ Err (record { word = 6; expected = expected.AfterOutcome })
+  two_values : txns.count ≡ 1 → line_of txns (words_of (codes "A run 0 -> did 7 8")) ≡ Err (record { word = 6; expected = expected.AfterOutcome (Run A 0) })
   unfolding open_all
   two_values one = rw one refl
 
   -- and it comes behind `did` alone
   waits_no_value : txns.count ≡ 1 → line_of txns (words_of (codes "A run 0 -> waits 0 7"))
-      ≡ Err (record { word = 6; expected = expected.AfterOutcome })
+      ≡ Err (record { word = 6; expected = expected.AfterOutcome (Run A 0) })
   unfolding open_all
   waits_no_value one = rw one refl
 
-  unknown_no_value : txns.count ≡ 1 → line_of txns (words_of (codes "A run 0 -> ? 7")) ≡ Err (record { word = 5; expected = expected.AfterOutcome })
+  unknown_no_value : txns.count ≡ 1 → line_of txns (words_of (codes "A run 0 -> ? 7")) ≡ Err (record { word = 5; expected = expected.AfterOutcome (Run A 0) })
   unfolding open_all
   unknown_no_value one = rw one refl
 
+  -- rows, behind the message
+  push_rows : line_of txns (words_of (codes "A push -> pushed 0 ! page rows 10=1 20=2"))
+      ≡ Ok (Step (record {
+        choice = Push A;
+        told = Some (pattern.Pushed (Some 0));
+        value = None;
+        sent = Some message.Page;
+        rows = Some (row 10 1 ∷ row 20 2 ∷ []);
+      }))
+  unfolding open_all
+  push_rows = refl
+
+  -- behind the outcome
+  take_rows : line_of txns (words_of (codes "B take -> got page 0 rows 10=1"))
+      ≡ Ok (Step (record { choice = Take B; told = Some (pattern.GotPage (Some 0)); value = None; sent = None; rows = Some (row 10 1 ∷ []) }))
+  unfolding open_all
+  take_rows = refl
+
+  -- a page without rows
+  no_rows : line_of txns (words_of (codes "A take -> got pull 0 ! page rows"))
+      ≡ Ok (Step (record { choice = Take A; told = Some (pattern.GotPull (Some 0)); value = None; sent = Some message.Page; rows = Some [] }))
+  unfolding open_all
+  no_rows = refl
+
+  -- the page is left out before rows
+  rows_of_page : line_of txns (words_of (codes "A push -> pushed rows 10=1"))
+      ≡ Ok (Step (record { choice = Push A; told = Some (pattern.Pushed None); value = None; sent = None; rows = Some (row 10 1 ∷ []) }))
+  unfolding open_all
+  rows_of_page = refl
+
+  -- so is the outcome
+  rows_of_choice : line_of txns (words_of (codes "A push rows 65535=4294967295"))
+      ≡ Ok (Step (record { choice = Push A; told = None; value = None; sent = None; rows = Some (row 65535 4294967295 ∷ []) }))
+  unfolding open_all
+  rows_of_choice = refl
+
+  rows_of_unknown : line_of txns (words_of (codes "A push -> ? rows"))
+      ≡ Ok (Step (record { choice = Push A; told = None; value = None; sent = None; rows = Some [] }))
+  unfolding open_all
+  rows_of_unknown = refl
+
+  -- a finish has no rows, but a transaction may have that name
+  named_rows : txns.count ≡ 1 → place_among txns.names.now (codes "rows") ≡ Some 0 → line_of txns (words_of (codes "A finish -> active rows"))
+      ≡ Ok (Step (record { choice = Finish A; told = Some (pattern.Active (Some 0)); value = None; sent = None; rows = None }))
+  unfolding open_all
+  named_rows one known = rw (known, one) refl
+
+  -- no other choice has rows
+  run_rows : txns.count ≡ 1 → line_of txns (words_of (codes "A run 0 -> waits 0 rows 10=1"))
+      ≡ Err (record { word = 6; expected = expected.AfterOutcome (Run A 0) })
+  unfolding open_all
+  run_rows one = rw one refl
+
+  finish_rows : line_of txns (words_of (codes "A finish rows")) ≡ Err (record { word = 2; expected = expected.AfterChoice (Finish A) })
+  unfolding open_all
+  finish_rows = refl
+
+  -- nothing but rows comes behind `rows`
+  no_row : line_of txns (words_of (codes "A push rows 10=1 ! page")) ≡ Err (record { word = 4; expected = expected.Row })
+  unfolding open_all
+  no_row = refl
+
+  -- a key is a number, not above 65535
+  no_key : line_of txns (words_of (codes "A push rows =1")) ≡ Err (record { word = 3; expected = expected.Number })
+  unfolding open_all
+  no_key = refl
+
+  large_key : line_of txns (words_of (codes "A push rows 65536=1")) ≡ Err (record { word = 3; expected = expected.AtMost 65535 })
+  unfolding open_all
+  large_key = refl
+
+  -- so is a value, up to its own greatest
+  no_row_value : line_of txns (words_of (codes "A push rows 1=2=3")) ≡ Err (record { word = 3; expected = expected.Number })
+  unfolding open_all
+  no_row_value = refl
+
+  large_row_value : line_of txns (words_of (codes "A push rows 1=4294967296")) ≡ Err (record { word = 3; expected = expected.AtMost 4294967295 })
+  unfolding open_all
+  large_row_value = refl
+
+  -- keys rise
+  same_key : line_of txns (words_of (codes "A push rows 10=1 10=2")) ≡ Err (record { word = 4; expected = expected.HigherKey })
+  unfolding open_all
+  same_key = refl
+
+  -- there are at most 16 rows
+  rows_17 : line_of txns (words_of (codes "B take rows 0=0 1=0 2=0 3=0 4=0 5=0 6=0 7=0 8=0 9=0 10=0 11=0 12=0 13=0 14=0 15=0 16=0"))
+      ≡ Err (record { word = 19; expected = expected.FewerRows })
+  unfolding open_all
+  rows_17 = refl
+
+  -- the message comes before the rows
+  behind_message : line_of txns (words_of (codes "A take ! page 1")) ≡ Err (record { word = 4; expected = expected.AfterMessage (Take A) })
+  unfolding open_all
+  behind_message = refl
+
   -- `killed` is the client's abort alone
   kills : txns.count ≡ 1 → line_of txns (words_of (codes "C kill 0 -> aborted killed"))
-      ≡ Ok (Step (record { choice = Kill 0; told = Some (pattern.Aborted (Some reason.Killed)); value = None; sent = None }))
+      ≡ Ok (Step (record { choice = Kill 0; told = Some (pattern.Aborted (Some reason.Killed)); value = None; sent = None; rows = None }))
   unfolding open_all
   kills one = rw one refl
 
@@ -167,8 +265,8 @@ module _ (txns : Txns) where
   text = codes "A take" ++ 10 ∷ 10 ∷ codes "B push"
 
   -- its lines have the numbers of lines of the input, the first of which is 5
-  numbered : logs_of txns 4 2 5 text ≡ Ok (record { number = 5; logged = Step (record { choice = Take A; told = None; value = None; sent = None }) }
-      ∷ record { number = 7; logged = Step (record { choice = Push B; told = None; value = None; sent = None }) } ∷ [])
+  numbered : logs_of txns 4 2 5 text ≡ Ok (record { number = 5; logged = Step (record { choice = Take A; told = None; value = None; sent = None; rows = None }) }
+      ∷ record { number = 7; logged = Step (record { choice = Push B; told = None; value = None; sent = None; rows = None }) } ∷ [])
   unfolding open_all
   numbered = refl
 
@@ -182,7 +280,7 @@ module _ (txns : Txns) where
   with_gap = codes "A take" ++ 10 ∷ codes "A ..."
 
   -- where a gap counts for four steps, they count for five
-  gap_counts : logs_of txns 4 5 1 with_gap ≡ Ok (record { number = 1; logged = Step (record { choice = Take A; told = None; value = None; sent = None }) }
+  gap_counts : logs_of txns 4 5 1 with_gap ≡ Ok (record { number = 1; logged = Step (record { choice = Take A; told = None; value = None; sent = None; rows = None }) }
       ∷ record { number = 2; logged = Gap actor.A } ∷ [])
   unfolding open_all
   gap_counts = refl
@@ -202,19 +300,19 @@ page_left_out = refl
 
 -- a run shows 7
 abbrev shows : Observation
-shows = record { entry = record { choice = Run A 0; outcome = outcome.Did; sent = None }; value = Some 7 }
+shows = record { entry = record { choice = Run A 0; outcome = outcome.Did; sent = None }; value = Some 7; rows = None; node = None }
 
 -- a line of it that tells a value, or none
 abbrev tells : Option ℕ → LogLine
-tells v = record { choice = Run A 0; told = Some pattern.Did; value = v; sent = None }
+tells v = record { choice = Run A 0; told = Some pattern.Did; value = v; sent = None; rows = None }
 
 -- the logged value is the one that came
 value_told : Agrees (tells (Some 7)) shows
-value_told = (refl, refl, tt)
+value_told = (refl, refl, tt, tt)
 
 -- any value may come where none was logged
 value_left_out : Agrees (tells None) shows
-value_left_out = (refl, tt, tt)
+value_left_out = (refl, tt, tt, tt)
 
 -- another value does not agree
 value_differs : Agrees (tells (Some 8)) shows → ⊥
@@ -224,14 +322,43 @@ value_differs h = grind (arith, h.1)
 value_of_none : Agrees (tells (Some 0)) (record shows { value = None }) → ⊥
 value_of_none h = let e = h.1 in cc
 
+-- a push shows two rows
+abbrev pushes : Observation
+pushes = record {
+  entry = record { choice = Push A; outcome = outcome.Pushed 0; sent = Some message.Page };
+  value = None;
+  rows = Some (row 10 1 ∷ row 20 2 ∷ []);
+  node = None;
+}
+
+-- a line of it that tells rows, or none
+abbrev tells_rows : Option (List Row) → LogLine
+tells_rows rows = record { choice = Push A; told = Some (pattern.Pushed (Some 0)); value = None; sent = Some message.Page; rows = rows }
+
+-- the logged rows are those that came
+rows_told : Agrees (tells_rows (Some (row 10 1 ∷ row 20 2 ∷ []))) pushes
+rows_told = (refl, tt, refl, refl)
+
+-- any rows may come where none were logged
+rows_left_out : Agrees (tells_rows None) pushes
+rows_left_out = (refl, tt, refl, tt)
+
+-- no rows are other rows
+no_rows_differ : Agrees (tells_rows (Some [])) pushes → ⊥
+no_rows_differ h = let e = h.3 in cc
+
+-- so are the first ones alone
+fewer_rows_differ : Agrees (tells_rows (Some (row 10 1 ∷ []))) pushes → ⊥
+fewer_rows_differ h = let e = h.3 in cc
+
 -- all of a step, in words
-all_told : step_words (record { entry = record { choice = Take A; outcome = outcome.GotPull 1; sent = Some message.Page }; value = None })
-    ≡ words_of (codes "A take -> got pull 1 ! page")
+all_told : step_words (record { entry = record { choice = Take A; outcome = outcome.GotPull 1; sent = Some message.Page }; value = None; rows = Some []; node = None })
+    ≡ words_of (codes "A take -> got pull 1 ! page rows")
 unfolding digits
 all_told = refl
 
 -- one that sent no message
-all_told_alone : step_words (record { entry = record { choice = Begin 0; outcome = outcome.Began B; sent = None }; value = None })
+all_told_alone : step_words (record { entry = record { choice = Begin 0; outcome = outcome.Began B; sent = None }; value = None; rows = None; node = Some B })
     ≡ words_of (codes "C begin 0 -> began B")
 unfolding digits
 all_told_alone = refl
@@ -240,3 +367,8 @@ all_told_alone = refl
 all_told_value : step_words shows ≡ words_of (codes "A run 0 -> did 7")
 unfolding digits
 all_told_value = refl
+
+-- one that shows rows
+all_told_rows : step_words pushes ≡ words_of (codes "A push -> pushed 0 ! page rows 10=1 20=2")
+unfolding digits
+all_told_rows = refl

@@ -1,7 +1,8 @@
 -- The line of a log that tells all that a step shows, and what such a line can tell.
-use Rattle.std.specs.Prelude.{◌≡◌, ℕ, ◌≤◌, ◌<◌, ◌++◌, List, [], ◌∷◌, codes, Option, Some, None, IfSome}
+use Rattle.std.specs.Prelude.{◌≡◌, ℕ, ◌≤◌, ◌<◌, ◌++◌, List, [], ◌∷◌, codes, length, map, Option, Some, None, IfSome, true}
 use Rattle.std.specs.Fmt.{decimal}
-use Rattle.zy_isa.specs.Limits.{max_key, max_txns, max_value}
+use Rattle.zy_isa.specs.Limits.{max_cap, max_key, max_txns, max_value}
+use Rattle.zy_isa.specs.declared.row.Row.{Row}
 use Rattle.zy_isa.specs.declared.instr.Reg.{Reg}
 use Rattle.zy_model.specs.declared.kind.Kind.{Kind}
 use Rattle.zy_model.specs.declared.kind.Kind.TheVariants as kind
@@ -10,17 +11,21 @@ use Rattle.zy_table.specs.declared.outcome.Why.{Why}
 use Rattle.zy_table.specs.declared.outcome.Why.TheVariants as why
 use Rattle.zy_table.specs.declared.outcome.Outcome.{Outcome}
 use Rattle.zy_table.specs.declared.outcome.Outcome.TheVariants as outcome
+use Rattle.zy_page.specs.RowLists.{AreKept}
 use Rattle.zy_table.specs.Change.{reg}
+use Rattle.zy_table.specs.Database.{all_leaves}
 use Rattle.zy_table.specs.Observations.{txn_of}
+use Rattle.zy_table.specs.Pages.{rows_of}
 use Rattle.zy_table.specs.State.{State}
 use Rattle.zy_text.specs.Canon.{node_text, choice_words}
 use Rattle.zy_patterns.specs.Patterns.{exactly}
 use Rattle.zy_logs.specs.declared.log_line.LogLine.{LogLine}
+use Rattle.zy_logs.specs.Possible.{can_have_rows}
 use Rattle.zy_logs.specs.Words.{Word}
 
--- the choice, all of the outcome, the value, if there is one, and the message that was sent, if one was
+-- the choice, all of the outcome, the value and the rows, if there are any, and the message that was sent, if one was
 abbrev pub in_full : Observation → LogLine
-in_full o = record { choice = o.entry.choice; told = Some (exactly o.entry.outcome); value = o.value; sent = o.entry.sent }
+in_full o = record { choice = o.entry.choice; told = Some (exactly o.entry.outcome); value = o.value; sent = o.entry.sent; rows = o.rows }
 
 -- a line may give this number for a page or a key
 abbrev pub IsPage : ℕ → Type 0
@@ -55,6 +60,18 @@ IsShown o = IfSome o.value (λ v. (v ≤ max_value) × (o.entry.outcome ≡ outc
 -- each register of each transaction holds a value that a line may tell
 abbrev pub HoldValues : State → Type 0
 HoldValues s = (t : ℕ) → (r : Reg) → reg (txn_of s t).regs r ≤ max_value
+
+-- rows that a line may tell: at most 16, each key once, in order, and no key and no value too large
+abbrev pub AreRows : List Row → Type 0
+AreRows rows = (length rows ≤ max_cap) × AreKept rows
+
+-- a line may tell the rows: the choice takes or pushes, and there are no more than a page may have, in order, and none too large
+abbrev pub AreShown : Observation → Type 0
+AreShown o = IfSome o.rows (λ rows. (can_have_rows o.entry.choice ≡ true) × AreRows rows)
+
+-- each page holds rows that a line may tell
+abbrev pub HoldRows : State → Type 0
+HoldRows s = (p : ℕ) → AreRows (rows_of (all_leaves s) p)
 
 -- ---- the words of such a line, which names a transaction by its number
 
@@ -120,6 +137,19 @@ abbrev pub sent_words : Option Kind → List Word
 sent_words None = []
 sent_words (Some k) = codes "!" ∷ kind_word k ∷ []
 
--- CHOICE -> OUTCOME [ V ] [ ! KIND ]
+-- K=V
+abbrev pub row_word : Row → Word
+row_word r = decimal r.key ++ 61 ∷ decimal r.value
+
+-- [ ROWS ]
+abbrev pub rows_words : Option (List Row) → List Word
+rows_words None = []
+rows_words (Some rows) = codes "rows" ∷ map row_word rows
+
+-- [ V ] [ ! KIND ] [ ROWS ]
+abbrev pub shown_words : Observation → List Word
+shown_words o = value_words o.value ++ (sent_words o.entry.sent ++ rows_words o.rows)
+
+-- CHOICE -> OUTCOME [ V ] [ ! KIND ] [ ROWS ]
 abbrev pub step_words : Observation → List Word
-step_words o = choice_words o.entry.choice ++ (codes "->" ∷ (outcome_words o.entry.outcome ++ (value_words o.value ++ sent_words o.entry.sent)))
+step_words o = choice_words o.entry.choice ++ (codes "->" ∷ (outcome_words o.entry.outcome ++ shown_words o))

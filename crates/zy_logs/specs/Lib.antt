@@ -6,5 +6,6 @@ pub mod Words
 pub mod Cursors
 pub mod Txns
 pub mod Parts
+pub mod Rows
 pub mod Lines
 pub mod Logs

@@ -1,11 +1,14 @@
--- The line of a log that words spell: CHOICE, then [ -> OUTCOME ], then [ V ] where that is `did`, then [ ! KIND ]; or ACTOR `...`.
-use Rattle.std.specs.Prelude.{ℕ, ◌-◌, Bool, true, false, List, codes, length, Option, Some, None, Result, Ok, Err, if◌then◌else◌}
+-- The line of a log that words spell: CHOICE, then [ -> OUTCOME ], then [ V ] where that is `did`, then
+-- [ ! KIND ], then [ ROWS ]; or ACTOR `...`.
+use Rattle.std.specs.Prelude.{ℕ, ◌-◌, ◌&&◌, ◌||◌, Bool, true, false, List, codes, length, Option, Some, None, Result, Ok, Err, if◌then◌else◌}
 use Rattle.zy_isa.specs.declared.node.Node.{Node}
 use Rattle.zy_isa.specs.declared.node.Node.TheVariants.{A, B}
 use Rattle.zy_isa.specs.declared.node.Actor.{Actor}
 use Rattle.zy_isa.specs.declared.node.Actor.TheVariants as actor
 use Rattle.zy_isa.specs.declared.choice.Choice.{Choice}
 use Rattle.zy_isa.specs.declared.choice.Choice.TheVariants as choice
+use Rattle.zy_isa.specs.declared.row.Row.{Row}
+use Rattle.zy_isa.specs.Limits.{max_cap}
 use Rattle.zy_isa.specs.Results.{◌>>=◌}
 use Rattle.zy_model.specs.declared.kind.Kind.{Kind}
 use Rattle.zy_logs.specs.declared.expected.ExpectedInLog.{ExpectedInLog}
@@ -18,9 +21,11 @@ use Rattle.zy_patterns.specs.declared.paged.PagedOutcome.{PagedOutcome}
 use Rattle.zy_patterns.specs.declared.patterns.OutcomePattern.{OutcomePattern}
 use Rattle.zy_patterns.specs.declared.patterns.OutcomePattern.TheVariants as pattern
 use Rattle.zy_logs.specs.declared.txns.Txns.{Txns}
-use Rattle.zy_logs.specs.Words.{Word, Read, first, after, are_none, begin_with, end_outcome, refused, gives, made}
-use Rattle.zy_logs.specs.Parts.{or_none, page, place, value, txn, node_at, reason}
-use Rattle.zy_logs.specs.Possible.{can_give}
+use Rattle.zy_logs.specs.declared.reading.cursor.Misfit.{Misfit}
+use Rattle.zy_logs.specs.Words.{Word, Read, first, after, are_none, begin_with, message_or_end, stop, refused, gives, made}
+use Rattle.zy_logs.specs.Parts.{or_none, page, place, value, txn, txn_or_none, node_at, reason}
+use Rattle.zy_logs.specs.Possible.{can_give, can_have_rows}
+use Rattle.zy_logs.specs.Rows.{rows_from}
 use Rattle.zy_patterns.specs.Vocabulary as word
 use Rattle.zy_patterns.specs.Paged.{with_page}
 
@@ -78,7 +83,7 @@ outcome_of txns ws =
     if begin_with (codes "began") ws then made pattern.Began (or_none node_at (after ws)) else
     if begin_with (codes "committed") ws then made pattern.Committed (or_none place (after ws)) else
     if begin_with (codes "aborted") ws then made pattern.Aborted (or_none reason (after ws)) else
-    if begin_with (codes "active") ws then made pattern.Active (or_none (txn txns) (after ws)) else
+    if begin_with (codes "active") ws then made pattern.Active (txn_or_none txns (after ws)) else
     if begin_with (codes "split") ws then split (after ws) else
     if begin_with (codes "got") ws then got (after ws) else
     paged ws
@@ -95,12 +100,20 @@ possible txns c ws = do
 abbrev pub logged : Txns → Choice → List Word → Read (Option OutcomePattern)
 logged txns c ws = if begin_with (codes "?") ws then Ok (None, after ws) else made Some (possible txns c ws)
 
+-- rows come, which the choice may have
+abbrev pub rows_come : Choice → List Word → Bool
+rows_come c ws = begin_with (codes "rows") ws && can_have_rows c
+
+-- what may stand behind the outcome of a choice comes: the message, rows, or the end
+abbrev pub end_told : Choice → List Word → Bool
+end_told c ws = message_or_end ws || rows_come c ws
+
 -- [ -> OUTCOME ], after the choice
 abbrev pub told_of : Txns → Choice → List Word → Read (Option OutcomePattern)
 told_of txns c ws =
     if begin_with (codes "->") ws then logged txns c (after ws) else
-    if end_outcome ws then Ok (None, ws) else
-    refused expected.AfterChoice ws
+    if end_told c ws then Ok (None, ws) else
+    refused (expected.AfterChoice c) ws
 
 -- a line tells `did`
 abbrev pub is_did : Option OutcomePattern → Bool
@@ -116,20 +129,32 @@ abbrev pub message : List Word → Read (Option Kind)
 message ws = made Some (gives (word.kind (first ws)) expected.Message ws)
 
 -- [ ! KIND ]
-abbrev pub sent_of : List Word → Read (Option Kind)
-sent_of ws =
+abbrev pub sent_of : Choice → List Word → Read (Option Kind)
+sent_of c ws =
     if begin_with (codes "!") ws then message (after ws) else
-    if are_none ws then Ok (None, ws) else
-    refused expected.AfterOutcome ws
+    if end_told c ws then Ok (None, ws) else
+    refused (expected.AfterOutcome c) ws
+
+-- ROWS, to the last word
+abbrev pub some_rows : Result (List Row) Misfit → Result (Option (List Row)) Misfit
+some_rows r = r >>= λ rows. Ok (Some rows)
+
+-- [ ROWS ], and nothing after them
+abbrev pub rows_of : Choice → List Word → Result (Option (List Row)) Misfit
+rows_of c ws =
+    if rows_come c ws then some_rows (rows_from 0 max_cap (after ws)) else
+    if are_none ws then Ok None else
+    Err (stop (expected.AfterMessage c) ws)
 
 -- the parts, and nothing after them
-abbrev pub whole : Txns → List Word → Read LogLine
+abbrev pub whole : Txns → List Word → Result LogLine Misfit
 whole txns ws = do
   c ← choice_of txns ws
   t ← told_of txns c.0 c.1
   v ← value_behind t.0 t.1
-  k ← sent_of v.1
-  if are_none k.1 then Ok (record { choice = c.0; told = t.0; value = v.0; sent = k.0 }, k.1) else refused expected.End k.1
+  k ← sent_of c.0 v.1
+  rows ← rows_of c.0 k.1
+  Ok (record { choice = c.0; told = t.0; value = v.0; sent = k.0; rows = rows })
 
 -- C, A or B
 abbrev pub whose : List Word → Read Actor
@@ -140,22 +165,26 @@ whose ws =
     refused expected.Actor ws
 
 -- nothing after `...`
-abbrev pub gap_end : Actor → List Word → Read Logged
-gap_end x ws = if are_none ws then Ok (Gap x, ws) else refused expected.EndOfGap ws
+abbrev pub gap_end : Actor → List Word → Result Logged Misfit
+gap_end x ws = if are_none ws then Ok (Gap x) else Err (stop expected.EndOfGap ws)
 
 -- ACTOR `...`
-abbrev pub gap : List Word → Read Logged
+abbrev pub gap : List Word → Result Logged Misfit
 gap ws = do
   x ← whose ws
   gap_end x.0 (after x.1)
 
+-- the line of a step
+abbrev pub step : Result LogLine Misfit → Result Logged Misfit
+step r = r >>= λ line. Ok (Step line)
+
 -- a gap, where the second word is `...`; else the line of a step
-abbrev pub gap_or_step : Txns → List Word → Read Logged
-gap_or_step txns ws = if begin_with (codes "...") (after ws) then gap ws else made Step (whole txns ws)
+abbrev pub gap_or_step : Txns → List Word → Result Logged Misfit
+gap_or_step txns ws = if begin_with (codes "...") (after ws) then gap ws else step (whole txns ws)
 
 -- what was read of `count` words, or the first word that does not fit, by how many come before it
-abbrev pub placed : {T : Type 0} → ℕ → Read T → Result T Misread
-placed count (Ok x) = Ok x.0
+abbrev pub placed : {T : Type 0} → ℕ → Result T Misfit → Result T Misread
+placed count (Ok x) = Ok x
 placed count (Err s) = Err (record { word = count - s.left; expected = s.expected })
 
 abbrev pub line_of : Txns → List Word → Result Logged Misread

@@ -79,6 +79,12 @@ steps (l ∷ lines) = step_of l.logged ++ steps lines
 abbrev pub choices_of : List NumberedLine → List Choice
 choices_of lines = map (λ (line : LogLine). line.choice) (steps lines)
 
+-- an item is behind the others, unless there was no memory
+abbrev pub Pushes : {T : Type 0} → Result (Unit {0}) LogFault → List T → T → List T → Type 0
+Pushes (Ok u) old item new = new ≡ old ++ item ∷ []
+Pushes (Err (Refused r)) old item new = ⊥
+Pushes (Err Memory) old item new = Unit {0}
+
 -- how a reader takes a line: it adds what the line tells, if anything, and has less room, unless the line is refused or there was no memory
 abbrev pub TakesLine : Result (Unit {0}) LogFault → (old new : LogReader) → Result (Option NumberedLine) LogLineFault → Type 0
 TakesLine (Ok u) old new line = (first : Option NumberedLine) × (line ≡ Ok first) × (new.lines.items ≡ old.lines.items ++ listed first)

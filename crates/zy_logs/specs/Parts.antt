@@ -9,7 +9,7 @@ use Rattle.zy_logs.specs.declared.expected.ExpectedInLog.TheVariants as expected
 use Rattle.zy_patterns.specs.declared.patterns.ReasonPattern.{ReasonPattern}
 use Rattle.zy_patterns.specs.declared.patterns.ReasonPattern.TheVariants as pattern
 use Rattle.zy_logs.specs.declared.txns.Txns.{Txns}
-use Rattle.zy_logs.specs.Words.{Word, Read, first, after, begin_with, end_outcome, refused, gives, made}
+use Rattle.zy_logs.specs.Words.{Word, Read, first, after, begin_with, message_or_end, end_outcome, refused, gives, made}
 use Rattle.zy_logs.specs.Txns.{named}
 use Rattle.zy_patterns.specs.Vocabulary as word
 
@@ -21,11 +21,15 @@ or_none part ws = if end_outcome ws then Ok (None, ws) else made Some (part ws)
 abbrev pub digits : List Word → Read ℕ
 digits ws = gives (number_of (first ws)) expected.Number ws
 
--- such a number, not above `most`
-abbrev pub number : ℕ → List Word → Read ℕ
-number most ws = do
-  n ← digits ws
+-- a number of 1 to 10 digits, not above `most`, that the first word or a part of it spells
+abbrev pub number_in : ℕ → Word → List Word → Read ℕ
+number_in most part ws = do
+  n ← gives (number_of part) expected.Number ws
   if nat_le n.0 most then Ok n else refused (expected.AtMost most) ws
+
+-- such a number, which is the word
+abbrev pub number : ℕ → List Word → Read ℕ
+number most ws = number_in most (first ws) ws
 
 -- P, and B of a split
 abbrev pub page : List Word → Read ℕ
@@ -51,6 +55,10 @@ txn txns ws =
     if is_numeral (first ws) then numbered txns.count ws else
     if is_name (first ws) then gives (named txns (first ws)) expected.KnownTxn ws else
     refused expected.Txn ws
+
+-- T, which may be left out; it may be the name `rows`
+abbrev pub txn_or_none : Txns → List Word → Read (Option ℕ)
+txn_or_none txns ws = if message_or_end ws then Ok (None, ws) else made Some (txn txns ws)
 
 -- N
 abbrev pub node_at : List Word → Read Node

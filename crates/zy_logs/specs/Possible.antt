@@ -35,6 +35,10 @@ abbrev pub is_push : Choice → Bool
 is_push (Push n) = true
 is_push c = false
 
+-- rows may stand behind a choice: it takes or pushes
+abbrev pub can_have_rows : Choice → Bool
+can_have_rows c = is_take c || is_push c
+
 -- a choice can abort a transaction for this reason
 abbrev pub can_abort : Choice → ReasonPattern → Bool
 can_abort c reason.Killed = is_kill c

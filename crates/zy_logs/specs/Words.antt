@@ -31,9 +31,13 @@ are_none (w ∷ ws) = false
 abbrev pub begin_with : Word → List Word → Bool
 begin_with w ws = bytes_eq (first ws) w
 
--- an outcome ends before these words: there is none, or the message comes
+-- there is no word, or the message comes
+abbrev pub message_or_end : List Word → Bool
+message_or_end ws = are_none ws || begin_with (codes "!") ws
+
+-- an outcome ends before these words: there is none, or the message comes, or rows do
 abbrev pub end_outcome : List Word → Bool
-end_outcome ws = are_none ws || begin_with (codes "!") ws
+end_outcome ws = message_or_end ws || begin_with (codes "rows") ws
 
 -- the first word does not fit: how many words are left with it, and what may stand in its place
 abbrev pub stop : ExpectedInLog → List Word → Misfit

@@ -2,6 +2,7 @@
 ghost use Rattle.std.specs.Prelude.{◌≡◌};
 ghost use Rattle.zy_logs.specs.Kinds.{kind_of};
 
+use crate::possible::can_have_rows;
 use std::fmt;
 use zy_isa::Choice;
 
@@ -14,11 +15,13 @@ pub enum FaultKind {
     Number,
     /// A number is too large.
     Range,
+    /// The key of a row is not above the one before it.
+    Order,
     /// The scenario does not have the transaction.
     Label,
     /// No step of the choice gives the outcome, whatever the state.
     Outcome,
-    /// There are too many choices.
+    /// There are too many choices, or too many rows of a page.
     Count,
 }
 
@@ -32,8 +35,8 @@ pub enum ExpectedInLog {
     Txn,
     /// A transaction that the scenario has.
     KnownTxn,
-    /// What may follow a choice.
-    AfterChoice,
+    /// What may follow this choice.
+    AfterChoice(Choice),
     Outcome,
     /// An outcome that a step of this choice can have.
     OutcomeOf(Choice),
@@ -45,12 +48,18 @@ pub enum ExpectedInLog {
     Number,
     /// A number of at most this.
     AtMost(u64),
-    /// What may follow an outcome.
-    AfterOutcome,
+    /// What may follow an outcome of this choice.
+    AfterOutcome(Choice),
     /// The kind of a message that was sent.
     Message,
-    /// The end of the line.
-    End,
+    /// What may follow the kind of a message that a step of this choice sent.
+    AfterMessage(Choice),
+    /// A row K=V, or the end of the line.
+    Row,
+    /// A row whose key is above the one before it.
+    HigherKey,
+    /// The end of the line: the page has as many rows as there may be.
+    FewerRows,
     /// The end of the line, after a gap.
     EndOfGap,
     /// No line that counts for as many choices as this one: there would be more of them than there may be.
@@ -65,6 +74,8 @@ impl ExpectedInLog {
         match self {
             ExpectedInLog::Number => FaultKind::Number,
             ExpectedInLog::AtMost(_) => FaultKind::Range,
+            ExpectedInLog::HigherKey => FaultKind::Order,
+            ExpectedInLog::FewerRows => FaultKind::Count,
             ExpectedInLog::KnownTxn => FaultKind::Label,
             ExpectedInLog::OutcomeOf(_) => FaultKind::Outcome,
             ExpectedInLog::FewerLines => FaultKind::Count,
@@ -72,14 +83,15 @@ impl ExpectedInLog {
             ExpectedInLog::ClientAction => FaultKind::Word,
             ExpectedInLog::NodeAction => FaultKind::Word,
             ExpectedInLog::Txn => FaultKind::Word,
-            ExpectedInLog::AfterChoice => FaultKind::Word,
+            ExpectedInLog::AfterChoice(_) => FaultKind::Word,
             ExpectedInLog::Outcome => FaultKind::Word,
             ExpectedInLog::Got => FaultKind::Word,
             ExpectedInLog::Node => FaultKind::Word,
             ExpectedInLog::Reason => FaultKind::Word,
-            ExpectedInLog::AfterOutcome => FaultKind::Word,
+            ExpectedInLog::AfterOutcome(_) => FaultKind::Word,
             ExpectedInLog::Message => FaultKind::Word,
-            ExpectedInLog::End => FaultKind::Word,
+            ExpectedInLog::AfterMessage(_) => FaultKind::Word,
+            ExpectedInLog::Row => FaultKind::Word,
             ExpectedInLog::EndOfGap => FaultKind::Word,
         }
     }
@@ -101,6 +113,20 @@ fn outcomes_of(choice: Choice) -> &'static str {
     }
 }
 
+/// What may stand before the end of the line, beside what a line of any choice has there: rows, where the choice may have them.
+fn or_rows(choice: Choice) -> &'static str {
+    if can_have_rows(choice) { ", rows" } else { "" }
+}
+
+/// What may follow the kind of a message that a step of the choice sent.
+fn after_message(choice: Choice) -> &'static str {
+    if can_have_rows(choice) {
+        "rows or the end of the line comes after the kind of the message that was sent"
+    } else {
+        "nothing comes after the kind of the message that was sent"
+    }
+}
+
 /// The words that `Display` writes.
 impl fmt::Debug for ExpectedInLog {
     fn fmt<W: fmt::Write>(&self, f: &mut fmt::Formatter<W>) -> fmt::Result {
@@ -117,8 +143,13 @@ impl fmt::Display for ExpectedInLog {
             ExpectedInLog::NodeAction => "after A or B comes run T, take, finish, push or ...",
             ExpectedInLog::Txn => "the number or the name of a transaction comes here",
             ExpectedInLog::KnownTxn => "the scenario does not have this transaction",
-            ExpectedInLog::AfterChoice =>
-                "after a choice comes -> OUTCOME, ! KIND or the end of the line",
+            ExpectedInLog::AfterChoice(choice) => {
+                return write!(
+                    f,
+                    "after a choice comes -> OUTCOME, ! KIND{} or the end of the line",
+                    or_rows(*choice)
+                );
+            }
             ExpectedInLog::Outcome => {
                 "after -> comes ? or an outcome of the listing, of which node, reason and numbers may be left out"
             }
@@ -133,11 +164,22 @@ impl fmt::Display for ExpectedInLog {
             ),
             ExpectedInLog::Number => "a number is 1 to 10 digits",
             ExpectedInLog::AtMost(most) => return write!(f, "a number from 0 to {most} comes here"),
-            ExpectedInLog::AfterOutcome => "after an outcome comes ! KIND or the end of the line",
+            ExpectedInLog::AfterOutcome(choice) => {
+                return write!(
+                    f,
+                    "after an outcome comes ! KIND{} or the end of the line",
+                    or_rows(*choice)
+                );
+            }
             ExpectedInLog::Message => {
                 "after ! comes the kind of the message that was sent: wire, ready, dual, pull, page, finish or done"
             }
-            ExpectedInLog::End => "nothing comes after the kind of the message that was sent",
+            ExpectedInLog::AfterMessage(choice) => {
+                return write!(f, "{}", after_message(*choice));
+            }
+            ExpectedInLog::Row => "after rows comes KEY=VALUE for each row, and nothing else",
+            ExpectedInLog::HigherKey => "the key of a row is above the key of the row before it",
+            ExpectedInLog::FewerRows => "a page has at most 16 rows",
             ExpectedInLog::EndOfGap => "nothing comes after ..., which stands for missing steps",
             ExpectedInLog::FewerLines =>
                 "there are at most 4096 choices, those of the scenario and of the gaps counted",

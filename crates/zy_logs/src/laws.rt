@@ -12,7 +12,7 @@ ghost use Rattle.zy_table.specs.State.{State};
 ghost use Rattle.zy_logs.specs.declared.logs.NumberedLine.{NumberedLine as ALine};
 ghost use Rattle.zy_logs.specs.declared.log_line.Logged.TheVariants.{Step};
 ghost use Rattle.zy_logs.specs.declared.txns.Txns.{Txns as SomeTxns};
-ghost use Rattle.zy_logs.specs.InFull.{HoldValues, IsShown, IsTold, in_full, outcome_words, step_words};
+ghost use Rattle.zy_logs.specs.InFull.{AreShown, HoldRows, HoldValues, IsShown, IsTold, in_full, outcome_words, step_words};
 ghost use Rattle.zy_logs.specs.Lines.{line_of, outcome_of};
 ghost use Rattle.zy_logs.specs.Logs.{choices_of, logs_of, steps_in};
 ghost use Rattle.zy_logs.specs.Possible.{can_give};
@@ -41,12 +41,17 @@ pub fn values_are_shown()
     ensures { (sc : AScenario) → (c : AChoice) → (s : State) → HoldValues (step sc c s).after → IsShown (observation_at sc s c) }
 {}
 
+/// Only a take or a push shows rows. A line may tell them, if each page holds rows that a line may tell after the step.
+pub fn rows_are_shown()
+    ensures { (sc : AScenario) → (c : AChoice) → (s : State) → HoldRows (step sc c s).after → AreShown (observation_at sc s c) }
+{}
+
 /// The reader takes the words that tell all of an outcome as the pattern that matches only this outcome, whatever words follow. It
-/// reads the words of all that a step shows likewise: its choice, its outcome, and the value and the sent message, if any.
+/// reads the words of all that a step shows likewise: its choice, its outcome, and the value, the sent message and the rows, if any.
 pub fn told_in_full()
     ensures outcome { (txns : SomeTxns) → txns.count ≤ max_txns → (told : AnOutcome) → IsTold txns.count told → (rest : List AWord)
         → outcome_of txns (outcome_words told ++ rest) ≡ Ok (exactly told, rest) }
     ensures line { (txns : SomeTxns) → txns.count ≤ max_txns → (o : AnObservation) → names_below txns.count o.entry.choice ≡ true
-        → IsTold txns.count o.entry.outcome → can_give o.entry.choice (exactly o.entry.outcome) ≡ true → IsShown o
+        → IsTold txns.count o.entry.outcome → can_give o.entry.choice (exactly o.entry.outcome) ≡ true → IsShown o → AreShown o
         → line_of txns (step_words o) ≡ Ok (Step (in_full o)) }
 {}

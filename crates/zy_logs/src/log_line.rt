@@ -7,6 +7,7 @@ ghost use Rattle.zy_patterns.specs.Patterns.{matches as matches_outcome};
 
 use zy_isa::{Actor, Choice};
 use zy_model::Kind;
+use zy_page::PageRows;
 use zy_patterns::OutcomePattern;
 use zy_patterns::patterns::matches;
 use zy_table::{Observation, Outcome};
@@ -23,6 +24,8 @@ pub struct LogLine {
     pub value: Option<u32>,
     /// The kind of message that its step sent, if it was logged.
     pub sent: Option<Kind>,
+    /// The rows of the page that its step moved, if they were logged.
+    pub rows: Option<PageRows>,
 }
 
 /// What a line of a log says: what was logged of a step, or that steps of an actor may be missing there.
@@ -64,10 +67,28 @@ fn is_sent(logged: Option<Kind>, came: Option<Kind>) -> bool
     }
 }
 
+/// Whether the rows that a step shows are those that were logged.
+fn are_same(logged: &PageRows, came: &PageRows) -> bool
+    ensures { Decides result (came.now ≡ logged.now) }
+{
+    came.as_slice() == logged.as_slice()
+}
+
+/// Whether a step shows the logged rows, if rows were logged.
+fn are_rows(logged: &Option<PageRows>, came: &Option<PageRows>) -> bool
+    ensures { Decides result (IfSome logged.now (λ rows. came.now ≡ Some rows)) }
+{
+    match (logged, came) {
+        (None, _) => true,
+        (Some(logged), Some(came)) => are_same(logged, came),
+        (Some(_), None) => false,
+    }
+}
+
 impl Logged {
     /// How many steps it counts for, where a gap counts for `gap`.
-    pub fn steps(self, gap: usize) -> usize
-        ensures { result ≡ steps_of gap self }
+    pub fn steps(&self, gap: usize) -> usize
+        ensures { result ≡ steps_of gap self.now }
     {
         match self {
             Logged::Step(_) => 1,
@@ -77,12 +98,13 @@ impl Logged {
 }
 
 impl LogLine {
-    /// Whether the line agrees with what a step shows: each of outcome, value and message that it tells is the step's.
+    /// Whether the line agrees with what a step shows: each of outcome, value, message and rows that it tells is the step's.
     pub fn agrees(&self, observation: &Observation) -> bool
         ensures { Decides result (Agrees self.now observation.now) }
     {
         is_outcome(self.told, observation.entry.outcome)
             && is_value(self.value, observation.value)
             && is_sent(self.sent, observation.entry.sent)
+            && are_rows(&self.rows, &observation.rows)
     }
 }

@@ -54,6 +54,13 @@ fn is_push(choice: Choice) -> bool
     matches!(choice, Choice::Push(_))
 }
 
+/// Whether rows may stand behind a choice: it takes or pushes.
+pub(crate) fn can_have_rows(choice: Choice) -> bool
+    ensures { result ≡ spec.can_have_rows choice }
+{
+    is_take(choice) || is_push(choice)
+}
+
 /// Whether a choice can abort a transaction for this reason.
 fn can_abort(choice: Choice, reason: ReasonPattern) -> bool
     ensures { result ≡ spec.can_abort choice reason }

@@ -10,17 +10,20 @@ mod choices;
 mod cursor;
 mod outcomes;
 mod parts;
+mod rows;
 
 use crate::expected::{ExpectedInLog, Misread};
 use crate::log_line::{LogLine, Logged};
-use crate::possible::can_give;
+use crate::possible::{can_give, can_have_rows};
 use crate::reading::choices::{choice, whose};
-use crate::reading::cursor::{LogCursor, Parsed};
+use crate::reading::cursor::{LogCursor, Misfit, Parsed};
 use crate::reading::outcomes::outcome;
 use crate::reading::parts::value_or_none;
+use crate::reading::rows::rows;
 use crate::txns::Txns;
 use zy_isa::Choice;
 use zy_model::Kind;
+use zy_page::PageRows;
 use zy_patterns::OutcomePattern;
 use zy_patterns::words::kind;
 
@@ -53,6 +56,20 @@ fn logged<'a>(
     Ok((Some(told), at))
 }
 
+/// Whether rows come, which the choice may have.
+fn rows_come(choice: Choice, at: LogCursor<'_>) -> bool
+    ensures { result ≡ spec.rows_come choice (left at.entry) }
+{
+    at.is_at(b"rows") && can_have_rows(choice)
+}
+
+/// Whether there comes what may stand behind the outcome of a choice: the message, rows, or the end.
+fn ends_told(choice: Choice, at: LogCursor<'_>) -> bool
+    ensures { result ≡ spec.end_told choice (left at.entry) }
+{
+    at.is_message_or_end() || rows_come(choice, at)
+}
+
 /// What was logged of the outcome, after the choice.
 fn told<'a>(txns: Txns<'a>, choice: Choice, at: LogCursor<'a>) -> Parsed<'a, Option<OutcomePattern>>
     requires { txns.count ≤ max_txns }
@@ -60,10 +77,10 @@ fn told<'a>(txns: Txns<'a>, choice: Choice, at: LogCursor<'a>) -> Parsed<'a, Opt
 {
     if at.is_at(b"->") {
         logged(txns, choice, at.next())
-    } else if at.ends_outcome() {
+    } else if ends_told(choice, at) {
         Ok((None, at))
     } else {
-        Err(at.refuses(ExpectedInLog::AfterChoice))
+        Err(at.refuses(ExpectedInLog::AfterChoice(choice)))
     }
 }
 
@@ -94,61 +111,73 @@ fn message<'a>(at: LogCursor<'a>) -> Parsed<'a, Option<Kind>>
 }
 
 /// The kind of the message that was sent, if it was logged.
-fn sent<'a>(at: LogCursor<'a>) -> Parsed<'a, Option<Kind>>
-    ensures { read result ≡ spec.sent_of (left at.entry) }
+fn sent<'a>(choice: Choice, at: LogCursor<'a>) -> Parsed<'a, Option<Kind>>
+    ensures { read result ≡ spec.sent_of choice (left at.entry) }
 {
     if at.is_at(b"!") {
         message(at.next())
-    } else if at.is_end() {
+    } else if ends_told(choice, at) {
         Ok((None, at))
     } else {
-        Err(at.refuses(ExpectedInLog::AfterOutcome))
+        Err(at.refuses(ExpectedInLog::AfterOutcome(choice)))
+    }
+}
+
+/// The rows of the page that was moved, if they were logged, and nothing after them.
+fn rows_or_end(choice: Choice, at: LogCursor<'_>) -> Result<Option<PageRows>, Misfit>
+    ensures { result ≡ spec.rows_of choice (left at.entry) }
+{
+    if rows_come(choice, at) {
+        let rows = rows(at.next())?;
+        Ok(Some(rows))
+    } else if at.is_end() {
+        Ok(None)
+    } else {
+        Err(at.refuses(ExpectedInLog::AfterMessage(choice)))
     }
 }
 
 /// The line that begins with the word at hand, and nothing after it.
-fn whole<'a>(txns: Txns<'a>, at: LogCursor<'a>) -> Parsed<'a, LogLine>
+fn whole(txns: Txns<'_>, at: LogCursor<'_>) -> Result<LogLine, Misfit>
     requires { txns.count ≤ max_txns }
-    ensures { read result ≡ spec.whole txns.entry (left at.entry) }
+    ensures { result ≡ spec.whole txns.entry (left at.entry) }
 {
     let (choice, at) = choice(txns, at)?;
     let (told, at) = told(txns, choice, at)?;
     let (value, at) = value_behind(told, at)?;
-    let (sent, at) = sent(at)?;
-    if !at.is_end() {
-        return Err(at.refuses(ExpectedInLog::End));
-    }
-    let line = LogLine {
+    let (sent, at) = sent(choice, at)?;
+    let rows = rows_or_end(choice, at)?;
+    Ok(LogLine {
         choice,
         told,
         value,
         sent,
-    };
-    Ok((line, at))
+        rows,
+    })
 }
 
 /// What a line says whose second word is `...`: whose log has a gap.
-fn gap<'a>(at: LogCursor<'a>) -> Parsed<'a, Logged>
-    ensures { read result ≡ spec.gap (left at.entry) }
+fn gap(at: LogCursor<'_>) -> Result<Logged, Misfit>
+    ensures { result ≡ spec.gap (left at.entry) }
 {
     let (actor, at) = whose(at)?;
     let at = at.next();
     if !at.is_end() {
         return Err(at.refuses(ExpectedInLog::EndOfGap));
     }
-    Ok((Logged::Gap(actor), at))
+    Ok(Logged::Gap(actor))
 }
 
 /// What the line that begins with the word at hand says.
-fn gap_or_step<'a>(txns: Txns<'a>, at: LogCursor<'a>) -> Parsed<'a, Logged>
+fn gap_or_step(txns: Txns<'_>, at: LogCursor<'_>) -> Result<Logged, Misfit>
     requires { txns.count ≤ max_txns }
-    ensures { read result ≡ spec.gap_or_step txns.entry (left at.entry) }
+    ensures { result ≡ spec.gap_or_step txns.entry (left at.entry) }
 {
     if at.next().is_at(b"...") {
         return gap(at);
     }
-    let (line, at) = whole(txns, at)?;
-    Ok((Logged::Step(line), at))
+    let line = whole(txns, at)?;
+    Ok(Logged::Step(line))
 }
 
 /// What a line of a log says, by its words.
@@ -157,7 +186,7 @@ pub fn read_line(txns: Txns<'_>, words: &[&[u8]]) -> Result<Logged, Misread>
     ensures { result ≡ spec.line_of txns.entry (texts words.now) }
 {
     match gap_or_step(txns, LogCursor::new(words)) {
-        Ok((logged, _)) => Ok(logged),
+        Ok(logged) => Ok(logged),
         Err(stop) => Err(Misread {
             word: words.len().saturating_sub(stop.left),
             expected: stop.expected,

@@ -65,11 +65,18 @@ impl<'a> LogCursor<'a> {
         is(self.word(), word)
     }
 
-    /// Whether an outcome ends before the word: there is none, or the message comes.
+    /// Whether there is no word, or the message comes.
+    pub fn is_message_or_end(self) -> bool
+        ensures { result ≡ spec.message_or_end (left self.entry) }
+    {
+        self.is_end() || self.is_at(b"!")
+    }
+
+    /// Whether an outcome ends before the word: there is none, or the message comes, or rows do.
     pub fn ends_outcome(self) -> bool
         ensures { result ≡ spec.end_outcome (left self.entry) }
     {
-        self.is_end() || self.is_at(b"!")
+        self.is_message_or_end() || self.is_at(b"rows")
     }
 
     /// Why the word is rejected: what may stand in its place.

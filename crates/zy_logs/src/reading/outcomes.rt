@@ -3,7 +3,7 @@ ghost use Rattle.std.specs.Prelude.{◌≡◌, ◌≤◌};
 ghost use Rattle.zy_isa.specs.Limits.{max_txns};
 ghost use Rattle.zy_logs.specs.Cursors.{left, read};
 ghost use Rattle.zy_logs.specs.Lines as spec;
-ghost use Rattle.zy_logs.specs.Parts.{or_none, page, place, txn, node_at, reason};
+ghost use Rattle.zy_logs.specs.Parts.{or_none, page, place, txn_or_none, node_at, reason};
 ghost use Rattle.zy_logs.specs.Words.{made};
 ghost use Rattle.zy_patterns.specs.declared.patterns.OutcomePattern.TheVariants as pattern;
 ghost use Rattle.zy_patterns.specs.Paged.{with_page as paged_with};
@@ -53,7 +53,7 @@ fn aborted<'a>(at: LogCursor<'a>) -> Parsed<'a, OutcomePattern>
 /// What comes after `active`: the transaction.
 fn active<'a>(txns: Txns<'a>, at: LogCursor<'a>) -> Parsed<'a, OutcomePattern>
     requires { txns.count ≤ max_txns }
-    ensures { read result ≡ made pattern.Active (or_none (txn txns.entry) (left at.entry)) }
+    ensures { read result ≡ made pattern.Active (txn_or_none txns.entry (left at.entry)) }
 {
     let (txn, at) = txn_or_none(txns, at)?;
     Ok((OutcomePattern::Active(txn), at))

@@ -1,6 +1,6 @@
 //! Numbers, nodes and transactions, and which of them may be left out.
 ghost use Rattle.std.specs.Prelude.{◌≡◌, ◌≤◌, IfOk};
-ghost use Rattle.zy_isa.specs.Limits.{max_txns};
+ghost use Rattle.zy_isa.specs.Limits.{max_key, max_txns, max_value};
 ghost use Rattle.zy_logs.specs.Cursors.{left, read};
 ghost use Rattle.zy_logs.specs.Parts as spec;
 ghost use Rattle.zy_logs.specs.Parts.{or_none};
@@ -23,12 +23,12 @@ const MAX_PLACE: u64 = MAX_TXNS as u64;
 /// The greatest value.
 const MAX_VALUE: u64 = u32::MAX as u64;
 
-/// A number that is not above `most`.
-fn number<'a>(most: u64, at: LogCursor<'a>) -> Parsed<'a, u64>
-    ensures value { read result ≡ spec.number most (left at.entry) }
+/// A number that is not above `most`, and which the word or a part of it spells.
+fn number_in<'a>(most: u64, part: &[u8], at: LogCursor<'a>) -> Parsed<'a, u64>
+    ensures value { read result ≡ spec.number_in most part.now (left at.entry) }
     ensures few { IfOk result (λ n. n.0 ≤ most) }
 {
-    let (number, next) = at.gives(number_of(at.word()), ExpectedInLog::Number)?;
+    let (number, next) = at.gives(number_of(part), ExpectedInLog::Number)?;
     if number <= most {
         Ok((number, next))
     } else {
@@ -36,12 +36,35 @@ fn number<'a>(most: u64, at: LogCursor<'a>) -> Parsed<'a, u64>
     }
 }
 
+/// A number that is not above `most`, and which the word spells.
+fn number<'a>(most: u64, at: LogCursor<'a>) -> Parsed<'a, u64>
+    ensures value { read result ≡ spec.number most (left at.entry) }
+    ensures few { IfOk result (λ n. n.0 ≤ most) }
+{
+    number_in(most, at.word(), at)
+}
+
+/// The key of a row.
+pub fn key_in<'a>(part: &[u8], at: LogCursor<'a>) -> Parsed<'a, u16>
+    ensures { read result ≡ spec.number_in max_key part.now (left at.entry) }
+{
+    let (number, at) = number_in(MAX_PAGE, part, at)?;
+    Ok((number as u16, at))
+}
+
+/// The value of a row.
+pub fn value_in<'a>(part: &[u8], at: LogCursor<'a>) -> Parsed<'a, u32>
+    ensures { read result ≡ spec.number_in max_value part.now (left at.entry) }
+{
+    let (number, at) = number_in(MAX_VALUE, part, at)?;
+    Ok((number as u32, at))
+}
+
 /// The number of a page, or a key.
 fn page<'a>(at: LogCursor<'a>) -> Parsed<'a, u16>
     ensures { read result ≡ spec.page (left at.entry) }
 {
-    let (number, at) = number(MAX_PAGE, at)?;
-    Ok((number as u16, at))
+    key_in(at.word(), at)
 }
 
 /// A place in commit order.
@@ -56,8 +79,7 @@ fn place<'a>(at: LogCursor<'a>) -> Parsed<'a, u8>
 fn value<'a>(at: LogCursor<'a>) -> Parsed<'a, u32>
     ensures { read result ≡ spec.value (left at.entry) }
 {
-    let (number, at) = number(MAX_VALUE, at)?;
-    Ok((number as u32, at))
+    value_in(at.word(), at)
 }
 
 /// A transaction by its number, where there are `count`.
@@ -120,12 +142,12 @@ pub fn value_or_none<'a>(at: LogCursor<'a>) -> Parsed<'a, Option<u32>>
     Ok((Some(value), at))
 }
 
-/// A transaction, if it is there.
+/// A transaction, if it is there. It may have the name `rows`.
 pub fn txn_or_none<'a>(txns: Txns<'a>, at: LogCursor<'a>) -> Parsed<'a, Option<u8>>
     requires { txns.count ≤ max_txns }
-    ensures { read result ≡ or_none (spec.txn txns.entry) (left at.entry) }
+    ensures { read result ≡ spec.txn_or_none txns.entry (left at.entry) }
 {
-    if at.ends_outcome() {
+    if at.is_message_or_end() {
         return Ok((None, at));
     }
     let (txn, at) = txn(txns, at)?;
