@@ -29,7 +29,7 @@ use Rattle.zy_logs.specs.declared.expected.ExpectedInLog.TheVariants as expected
 use Rattle.zy_logs.specs.declared.txns.Txns.{Txns}
 use Rattle.zy_logs.specs.Txns as log_txns
 use Rattle.zy_logs.specs.Words as log
-use Rattle.zy_logs.specs.Words.{Word, first, after, begin_with, end_outcome, gives, refused}
+use Rattle.zy_logs.specs.Words.{Word, first, after, begin_with, message_or_end, end_outcome, gives, refused}
 use Rattle.zy_logs.specs.Parts as log_part
 use Rattle.zy_logs.specs.Lines as log_line
 use Rattle.zy_queries.specs.declared.names.Names.{Names}
@@ -87,10 +87,23 @@ lone_follows true (Some y) e ws h x k = let none = h refl in cc
 lone_follows false None e ws h x k = cc
 lone_follows false (Some y) e ws h x k = cc
 
--- where an outcome ends, the first word is none, or `!`
-at_end : {A : Type 0} (f : Word → A) (y : A) → f [] ≡ y → f (codes "!") ≡ y → (ws : List Word) → end_outcome ws ≡ true → f (first ws) ≡ y
-at_end f y none mark [] e = none
-at_end f y none mark (w ∷ ws) e = ap f ((bytes_eq-Decides w (codes "!")).0 e) ∙ mark
+-- where the message comes or no word is left, the first word is none, or `!`
+at_message : {A : Type 0} (f : Word → A) (y : A) → f [] ≡ y → f (codes "!") ≡ y → (ws : List Word) → message_or_end ws ≡ true → f (first ws) ≡ y
+at_message f y none mark [] e = none
+at_message f y none mark (w ∷ ws) e = ap f ((bytes_eq-Decides w (codes "!")).0 e) ∙ mark
+
+-- one of two tests passes
+one_passes : {P : Type 0} (a b : Bool) → (a || b) ≡ true → (a ≡ true → P) → (b ≡ true → P) → P
+one_passes true b e left right = left refl
+one_passes false b e left right = right e
+
+-- where an outcome ends, the first word is none, `!` or `rows`
+at_end : {A : Type 0} (f : Word → A) (y : A) → f [] ≡ y → f (codes "!") ≡ y → f (codes "rows") ≡ y → (ws : List Word) → end_outcome ws ≡ true
+    → f (first ws) ≡ y
+at_end f y none mark rows [] e = none
+at_end f y none mark rows (w ∷ ws) e =
+    one_passes (begin_with (codes "!") (w ∷ ws)) (begin_with (codes "rows") (w ∷ ws)) e (λ h. ap f ((bytes_eq-Decides w (codes "!")).0 h) ∙ mark)
+    (λ h. ap f ((bytes_eq-Decides w (codes "rows")).0 h) ∙ rows)
 
 -- ---- parts that may be left out
 
@@ -156,7 +169,7 @@ most_follows : (most : ℕ) (ws : List Word)
 unfolding goal_word.number_to
 most_follows most ws =
     part_follows (end_outcome ws) (is_numeral (first ws)) (log_part.number most ws) (goal.one (goal_word.number_to most) ws) ws
-    (at_end is_numeral false refl refl ws) (number_numeral most ws)
+    (at_end is_numeral false refl refl refl ws) (number_numeral most ws)
     (number_follows (λ n. nat_le n most) (λ n. nat_le n most) (λ n e. e) (number_of (first ws)) expected.Number (expected.AtMost most) ws)
 
 -- a page or a key
@@ -166,14 +179,14 @@ page_follows ws = most_follows max_key ws
 -- a node
 node_follows : (ws : List Word) → Follows (log_part.or_none log_part.node_at ws) (phrase.one_or_none (word.node (first ws)) ws)
 unfolding word.node
-node_follows ws = lone_follows (end_outcome ws) (word.node (first ws)) expected.Node ws (at_end word.node None refl refl ws)
+node_follows ws = lone_follows (end_outcome ws) (word.node (first ws)) expected.Node ws (at_end word.node None refl refl refl ws)
 
 -- a reason
 reason_follows : (ws : List Word) → Follows (log_part.or_none log_part.reason ws) (phrase.reason_or_none ws)
 unfolding phrase.reason_or_none word.lone_reason
 reason_follows ws =
     read (end_outcome ws) (begin_with (codes "frozen") ws) (begin_with (codes "gone") ws) (word.lone_reason (first ws))
-    (at_end is_one false refl refl ws) (at_end word.lone_reason None refl refl ws)
+    (at_end is_one false refl refl refl ws) (at_end word.lone_reason None refl refl refl ws)
   where
     is_one : Word → Bool
     is_one w = bytes_eq w (codes "frozen") || bytes_eq w (codes "gone")
@@ -233,7 +246,7 @@ named_comes false false any all r s ws y known e = cc
 
 -- a transaction
 txn_follows : (txns : Txns) (names : Names) (ws : List Word) → txns.count ≤ 64 → IsKnown txns names ws
-    → Follows (log_part.or_none (log_part.txn txns) ws)
+    → Follows (log_part.txn_or_none txns ws)
     (phrase.or_none (is_numeral (first ws) || goal_word.is_name (first ws)) (goal.one (goal_word.txn names) ws) ws)
 unfolding goal_word.txn goal_word.number_to
 txn_follows txns names ws most known =
@@ -244,8 +257,8 @@ txn_follows txns names ws most known =
     let by_number = log_part.numbered txns.count ws in
     let by_name = gives (log_txns.named txns (first ws)) expected.KnownTxn ws in
     let number = goal_word.number_to 63 (first ws) in
-    part_follows (end_outcome ws) (numeral || goal_word.is_name (first ws)) (log_part.txn txns ws) (goal.one (goal_word.txn names) ws) ws
-    (at_end (λ w. is_numeral w || goal_word.is_name w) false refl refl ws)
+    part_follows (message_or_end ws) (numeral || goal_word.is_name (first ws)) (log_part.txn txns ws) (goal.one (goal_word.txn names) ws) ws
+    (at_message (λ w. is_numeral w || goal_word.is_name w) false refl refl ws)
     (λ y e. named_comes numeral name any all by_number by_name ws y (λ n. ((known n).0, (known n).1)) e)
     (named_follows numeral name any all by_number by_name number (goal_word.named names (first ws)) ws (no_name (first ws)) known
     (number_follows (λ n. nat_lt n txns.count) (λ n. nat_le n 63) (few txns.count most) (number_of (first ws)) expected.Number expected.KnownTxn ws))

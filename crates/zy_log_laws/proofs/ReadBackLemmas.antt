@@ -21,7 +21,7 @@ use Rattle.zy_logs.specs.Words.{after}
 use Rattle.zy_logs.proofs.FullLemmas.{outcome_given, step_given}
 use Rattle.zy_logs.proofs.PossibleSteps.{step_exactly}
 use Rattle.zy_text.proofs.WordLemmas.{words_spaced}
-use Rattle.zy_log_laws.specs.ReadBack.{AreReadBack, HaveNumbers, without_value}
+use Rattle.zy_log_laws.specs.ReadBack.{AreReadBack, HaveNumbers, entry_alone}
 use Rattle.zy_log_laws.proofs.TextLemmas.{outcome_spaced, outcome_clean, step_spaced, step_clean}
 
 -- the text of an outcome is read as the pattern that leaves nothing out
@@ -33,11 +33,11 @@ outcome_back txns o most h =
 
 -- the line of a step
 step_back : (txns : Txns) (i : ℕ) (e : Entry) → txns.count ≤ 64 → i < 2 ^ 32 → names_below txns.count e.choice ≡ true → IsTold txns.count e.outcome
-    → can_give e.choice (exactly e.outcome) ≡ true → line_of txns (after (words_of (step_text i e))) ≡ Ok (Step (in_full (without_value e)))
+    → can_give e.choice (exactly e.outcome) ≡ true → line_of txns (after (words_of (step_text i e))) ≡ Ok (Step (in_full (entry_alone e)))
 step_back txns i e most few named h can =
     ap (λ l. line_of txns (after (words_of l))) (step_spaced i e)
-    ∙ ap (λ ws. line_of txns (after ws)) (words_spaced (decimal i ∷ step_words (without_value e)) (step_clean txns.count i e most few named h))
-    ∙ step_given txns (without_value e) most named h can tt
+    ∙ ap (λ ws. line_of txns (after ws)) (words_spaced (decimal i ∷ step_words (entry_alone e)) (step_clean txns.count i e most few named h))
+    ∙ step_given txns (entry_alone e) most named h can tt tt
 
 -- the lines of steps from number i on
 steps_back : (sc : Scenario) (txns : Txns) (i : ℕ) (s : State) (cs : List Choice) → txns.count ≤ 64 → i + length cs < 2 ^ 32 → AreNamed txns.count cs

@@ -1,5 +1,5 @@
 -- The texts of a step are its words with a space between them, and these are words.
-use Rattle.std.proofs.Common.{◌≡◌, ◌∙◌, ℕ, ◌^◌, ◌<◌, ◌≤◌, Bool, true, false, ◌==◌, ◌&&◌, ◌||◌, List, [], ◌∷◌, ◌++◌, codes, Some, None, Option, refl, ap, sym, arith}
+use Rattle.std.proofs.Common.{◌≡◌, ◌∙◌, ℕ, ◌^◌, ◌<◌, ◌≤◌, Bool, true, false, ◌==◌, ◌&&◌, ◌||◌, List, [], ◌∷◌, ◌++◌, codes, Some, None, Option, refl, ap, subst, sym, arith}
 use Rattle.std.proofs.Common.{append_assoc, append-nil}
 use Rattle.std.specs.Fmt.{decimal}
 use Rattle.std.specs.Char.{is_ascii_digit}
@@ -23,7 +23,7 @@ use Rattle.zy_text.specs.Words.{is_word, has_words, spaced}
 use Rattle.zy_listing.specs.Texts.{why_text, kind_text, outcome_text, sent_text, step_text}
 use Rattle.zy_logs.specs.InFull.{IsPage, HasPage, IsTold, reason_words, outcome_words, kind_word, sent_words, step_words}
 use Rattle.zy_text.proofs.WordLemmas.{is_clean, are_clean, number_clean, digits_of, clean_choice}
-use Rattle.zy_log_laws.specs.ReadBack.{without_value}
+use Rattle.zy_log_laws.specs.ReadBack.{entry_alone}
 
 -- ---- words with a space between them
 
@@ -118,8 +118,12 @@ told_spaced o (Some kind) =
     ∙ ap (λ l. spaced (outcome_words o) ++ (codes " ! " ++ l)) (kind_same kind)
     ∙ sym (spaced_more (outcome_words o) (codes "!" ∷ kind_word kind ∷ []) (outcome_told o).1 refl)
 
+-- the words of a step that shows no value and no rows
+alone_words : (e : Entry) → step_words (entry_alone e) ≡ choice_words e.choice ++ (codes "->" ∷ (outcome_words e.outcome ++ sent_words e.sent))
+alone_words e = ap (λ ws. choice_words e.choice ++ (codes "->" ∷ (outcome_words e.outcome ++ ws))) (append-nil (sent_words e.sent))
+
 -- the text of a step
-pub step_spaced : (i : ℕ) (e : Entry) → step_text i e ≡ spaced (decimal i ∷ step_words (without_value e))
+pub step_spaced : (i : ℕ) (e : Entry) → step_text i e ≡ spaced (decimal i ∷ step_words (entry_alone e))
 step_spaced i e =
     let told = outcome_words e.outcome ++ sent_words e.sent in
     let arrow = sym (spaced_front (codes "->") told (some_more (outcome_words e.outcome) (sent_words e.sent) (outcome_told e.outcome).1)) in
@@ -128,6 +132,7 @@ step_spaced i e =
     ap Line (ap (λ l. codes "-> " ++ l) (told_spaced e.outcome e.sent) ∙ arrow)
     ∙ ap (λ l. decimal i ++ (32 ∷ l)) (sym (spaced_more made (codes "->" ∷ told) (choice_some e.choice) refl))
     ∙ sym (spaced_front (decimal i) (made ++ (codes "->" ∷ told)) (some_more made (codes "->" ∷ told) (choice_some e.choice)))
+    ∙ ap (λ ws. spaced (decimal i ∷ ws)) (sym (alone_words e))
 
 -- ---- the words
 
@@ -231,8 +236,9 @@ sent_clean (Some kind.Done) = refl
 
 -- the words of a step
 pub step_clean : (count i : ℕ) (e : Entry) → count ≤ 64 → i < 2 ^ 32 → names_below count e.choice ≡ true → IsTold count e.outcome
-    → are_clean (decimal i ∷ step_words (without_value e)) ≡ true
+    → are_clean (decimal i ∷ step_words (entry_alone e)) ≡ true
 step_clean count i e most few named h =
-    clean_more (decimal i ∷ []) (step_words (without_value e)) (one_clean i few)
-    (clean_more (choice_words e.choice) (codes "->" ∷ (outcome_words e.outcome ++ sent_words e.sent)) (clean_choice e.choice count most named).0
-    (clean_more (outcome_words e.outcome) (sent_words e.sent) (outcome_clean count e.outcome most h) (sent_clean e.sent)))
+    let told = codes "->" ∷ (outcome_words e.outcome ++ sent_words e.sent) in
+    clean_more (decimal i ∷ []) (step_words (entry_alone e)) (one_clean i few) (subst (λ ws. are_clean ws ≡ true) (sym (alone_words e))
+    (clean_more (choice_words e.choice) told (clean_choice e.choice count most named).0
+    (clean_more (outcome_words e.outcome) (sent_words e.sent) (outcome_clean count e.outcome most h) (sent_clean e.sent))))

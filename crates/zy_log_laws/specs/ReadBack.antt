@@ -9,14 +9,14 @@ use Rattle.zy_logs.specs.InFull.{in_full, IsTold}
 use Rattle.zy_logs.specs.Lines.{line_of}
 use Rattle.zy_logs.specs.Words.{Word, after, begin_with}
 
--- what a listing shows of a step: no value
-abbrev pub without_value : Entry → Observation
-without_value e = record { entry = e; value = None }
+-- what a listing shows of a step: no value, no rows and no node
+abbrev pub entry_alone : Entry → Observation
+entry_alone e = record { entry = e; value = None; rows = None; node = None }
 
 -- the words of each line behind its first word are a line of a log, which leaves nothing out of what the listing shows of the step
 abbrev pub AreReadBack : Txns → List (List ℕ) → List Entry → Type 0
 AreReadBack txns [] [] = Unit {0}
-AreReadBack txns (text ∷ texts) (e ∷ es) = (line_of txns (after (words_of text)) ≡ Ok (Step (in_full (without_value e)))) × AreReadBack txns texts es
+AreReadBack txns (text ∷ texts) (e ∷ es) = (line_of txns (after (words_of text)) ≡ Ok (Step (in_full (entry_alone e)))) × AreReadBack txns texts es
 AreReadBack txns texts es = ⊥
 
 -- the numbers of each outcome are ones that a line may have

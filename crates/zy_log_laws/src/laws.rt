@@ -27,7 +27,7 @@ pub fn an_outcome_is_read_back()
 {}
 
 /// Each line of a step of a listing, without its number, is a line of a log. It is read as the choice, all of the outcome, and the
-/// message that was sent, if one was. A listing shows no value, so that the line tells none.
+/// message that was sent, if one was. A listing shows no value and no rows, so that the line tells none.
 pub fn a_listing_is_a_log()
     ensures { (sc : Scenario) → IsScenario sc → (txns : SomeTxns) → txns.count ≡ length sc.programs
         → let es = entries sc (opening sc) sc.choices in
