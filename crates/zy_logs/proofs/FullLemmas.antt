@@ -1,12 +1,12 @@
 -- A line that leaves nothing of what a step shows out is read as that.
-use Rattle.std.proofs.Common.{◌≡◌, ◌∙◌, ℕ, ◌^◌, ◌<◌, ◌≤◌, true, false, ◌==◌, nat_le, nat_lt, List, [], ◌∷◌, ◌++◌, ◌+◌, ◌-◌, drop, map, length, codes, Some, None, Option}
-use Rattle.std.proofs.Common.{Bool, IfSome, Result, Ok, Err, refl, ap, arith, if◌then◌else◌}
+use Rattle.std.proofs.Common.{◌≡◌, ◌∙◌, ℕ, ◌^◌, ◌<◌, ◌≤◌, true, false, ◌==◌, nat_le, nat_lt, ◌&&◌, List, [], ◌∷◌, ◌++◌, ◌+◌, ◌-◌, drop, map, length, codes, Some, None, Option}
+use Rattle.std.proofs.Common.{Bool, IfSome, Result, Ok, Err, refl, ap, sym, arith, if◌then◌else◌}
 use Rattle.std.specs.Fmt.{decimal}
 use Rattle.std.specs.List.{position_or_len}
 use Rattle.std.proofs.Math.Seq.{take-append_seam, drop-append-add}
 use Rattle.std.specs.Char.{is_ascii_digit}
 use Rattle.std.specs.Str.{all_ascii_digits}
-use Rattle.std.proofs.lemmas.Bool.{le-leb, lt-ltb}
+use Rattle.std.proofs.lemmas.Bool.{and_from, le-leb, lt-ltb}
 use Rattle.std.proofs.lemmas.List.{length-append}
 use borrow.Author.Tests.{tests}
 use Rattle.zy_isa.specs.Limits.{max_cap, max_key, max_txns, max_value}
@@ -16,7 +16,9 @@ use Rattle.zy_isa.specs.declared.node.Node.{Node}
 use Rattle.zy_isa.specs.declared.node.Node.TheVariants.{A, B}
 use Rattle.zy_isa.specs.declared.choice.Choice.{Choice}
 use Rattle.zy_isa.specs.declared.choice.Choice.TheVariants.{Start, Begin, Kill, Run, Take, Finish, Push}
-use Rattle.zy_isa.specs.Choices.{names_below}
+use Rattle.zy_isa.specs.Choices.{actor_at, actor_of, names_below}
+use Rattle.zy_isa.specs.declared.node.Actor.{Actor}
+use Rattle.zy_isa.specs.declared.node.Actor.TheVariants as actor
 use Rattle.zy_isa.specs.Results.{◌>>=◌}
 use Rattle.zy_isa.proofs.ResultLemmas.{both, neither}
 use Rattle.zy_model.specs.declared.kind.Kind.{Kind}
@@ -43,14 +45,15 @@ use Rattle.zy_logs.specs.declared.log_line.Logged.TheVariants.{Step}
 use Rattle.zy_logs.specs.declared.txns.Txns.{Txns}
 use Rattle.zy_logs.specs.declared.reading.cursor.Misfit.{Misfit}
 use Rattle.zy_logs.specs.InFull.{in_full, IsPage, HasPage, IsTold, IsShown, AreRows, AreShown, reason_words, outcome_words, value_words, sent_words}
-use Rattle.zy_logs.specs.InFull.{row_word, rows_words, shown_words, step_words}
+use Rattle.zy_logs.specs.InFull.{row_word, rows_words, shown_words, step_words, log_word, in_log, words_in}
 use Rattle.zy_logs.specs.Words.{Word, Read, after, are_none, begin_with, message_or_end, end_outcome, stop, refused, gives, made}
 use Rattle.zy_logs.specs.Txns.{named}
 use Rattle.zy_logs.specs.Parts.{or_none, number_in, page, place, value, numbered, txn, node_at, reason}
 use Rattle.zy_logs.specs.Lines as line
-use Rattle.zy_logs.specs.Lines.{split, outcome_of, choice_of, possible, told_of, logged, is_did, value_behind, sent_of, some_rows, rows_of, whole, placed, line_of}
-use Rattle.zy_logs.specs.Possible.{can_give, can_have_rows}
+use Rattle.zy_logs.specs.Lines.{split, outcome_of, whose, choice_of, possible, told_of, logged, is_did, value_behind, sent_of, some_rows, rows_of, whole, placed, line_of}
+use Rattle.zy_logs.specs.Possible.{can_give, can_have_rows, can_stand}
 use Rattle.zy_logs.specs.Rows.{row_cut, sign_of, fitting, onto, rows_from}
+use Rattle.zy_logs.proofs.StandLemmas.{own_stands}
 use Rattle.zy_text.proofs.WordLemmas.{number_of-decimal, digits_of, decimal_some}
 
 -- opens the definitions of what words begin with
@@ -236,23 +239,61 @@ known outcome.NoPush rest = refl
 below : (t count : ℕ) → nat_lt t count ≡ true → t < count
 below t count h = grind (arith, tests)
 
--- a choice is read as itself
-choice_given : (txns : Txns) (c : Choice) (rest : List Word) → txns.count ≤ 64 → names_below txns.count c ≡ true
-    → choice_of txns (choice_words c ++ rest) ≡ Ok (c, rest)
-choice_given txns Start rest most h = refl
-choice_given txns (Begin t) rest most h = ap (made Begin) (txn_given txns t rest most (below t txns.count h))
-choice_given txns (Kill t) rest most h = ap (made Kill) (txn_given txns t rest most (below t txns.count h))
-choice_given txns (Run A t) rest most h = ap (made (Run A)) (txn_given txns t rest most (below t txns.count h))
-choice_given txns (Run B t) rest most h = ap (made (Run B)) (txn_given txns t rest most (below t txns.count h))
-choice_given txns (Take A) rest most h = refl
-choice_given txns (Take B) rest most h = refl
-choice_given txns (Finish A) rest most h = refl
-choice_given txns (Finish B) rest most h = refl
-choice_given txns (Push A) rest most h = refl
-choice_given txns (Push B) rest most h = refl
+-- a choice is read as itself in the log of its actor
+own_given : (txns : Txns) (c : Choice) (rest : List Word) → txns.count ≤ 64 → names_below txns.count c ≡ true
+    → choice_of txns (actor_of c) (after (choice_words c) ++ rest) ≡ Ok (c, rest)
+own_given txns Start rest most h = refl
+own_given txns (Begin t) rest most h = ap (made Begin) (txn_given txns t rest most (below t txns.count h))
+own_given txns (Kill t) rest most h = ap (made Kill) (txn_given txns t rest most (below t txns.count h))
+own_given txns (Run A t) rest most h = ap (made (Run A)) (txn_given txns t rest most (below t txns.count h))
+own_given txns (Run B t) rest most h = ap (made (Run B)) (txn_given txns t rest most (below t txns.count h))
+own_given txns (Take A) rest most h = refl
+own_given txns (Take B) rest most h = refl
+own_given txns (Finish A) rest most h = refl
+own_given txns (Finish B) rest most h = refl
+own_given txns (Push A) rest most h = refl
+own_given txns (Push B) rest most h = refl
 
--- its second word is no `...`
-no_gap : (c : Choice) (rest : List Word) → begin_with (codes "...") (after (choice_words c ++ rest)) ≡ false
+-- so is a choice of the client in the log of a node
+client_given : (txns : Txns) (n : Node) (c : Choice) (rest : List Word) → actor_of c ≡ actor.C → txns.count ≤ 64 → names_below txns.count c ≡ true
+    → choice_of txns (actor_at n) (after (choice_words c) ++ rest) ≡ Ok (c, rest)
+client_given txns A Start rest x most h = refl
+client_given txns B Start rest x most h = refl
+client_given txns A (Begin t) rest x most h = ap (made Begin) (txn_given txns t rest most (below t txns.count h))
+client_given txns B (Begin t) rest x most h = ap (made Begin) (txn_given txns t rest most (below t txns.count h))
+client_given txns A (Kill t) rest x most h = ap (made Kill) (txn_given txns t rest most (below t txns.count h))
+client_given txns B (Kill t) rest x most h = ap (made Kill) (txn_given txns t rest most (below t txns.count h))
+client_given txns n (Run A t) rest x most h = cc
+client_given txns n (Run B t) rest x most h = cc
+client_given txns n (Take A) rest x most h = cc
+client_given txns n (Take B) rest x most h = cc
+client_given txns n (Finish A) rest x most h = cc
+client_given txns n (Finish B) rest x most h = cc
+client_given txns n (Push A) rest x most h = cc
+client_given txns n (Push B) rest x most h = cc
+
+-- the name of the actor is read as the actor
+whose_given : (x : Actor) (rest : List Word) → whose (log_word x ∷ rest) ≡ Ok (x, rest)
+whose_given actor.C rest = refl
+whose_given actor.A rest = refl
+whose_given actor.B rest = refl
+
+-- it is the first word of a choice
+own_first : (c : Choice) (rest : List Word) → log_word (actor_of c) ∷ (after (choice_words c) ++ rest) ≡ choice_words c ++ rest
+own_first Start rest = refl
+own_first (Begin t) rest = refl
+own_first (Kill t) rest = refl
+own_first (Run A t) rest = refl
+own_first (Run B t) rest = refl
+own_first (Take A) rest = refl
+own_first (Take B) rest = refl
+own_first (Finish A) rest = refl
+own_first (Finish B) rest = refl
+own_first (Push A) rest = refl
+own_first (Push B) rest = refl
+
+-- the second word of a line is no `...`
+no_gap : (c : Choice) (rest : List Word) → begin_with (codes "...") (after (choice_words c) ++ rest) ≡ false
 no_gap Start rest = refl
 no_gap (Begin t) rest = refl
 no_gap (Kill t) rest = refl
@@ -261,21 +302,24 @@ no_gap (Take n) rest = refl
 no_gap (Finish n) rest = refl
 no_gap (Push n) rest = refl
 
--- an outcome that the choice can give
-possible_given : (txns : Txns) (c : Choice) (o : Outcome) (rest : List Word) → txns.count ≤ 64 → IsTold txns.count o → can_give c (exactly o) ≡ true
-    → possible txns c (outcome_words o ++ rest) ≡ Ok (exactly o, rest)
-possible_given txns c o rest most h can =
+-- an outcome that the choice can give, and a line of the log can tell
+possible_given : (txns : Txns) (x : Actor) (c : Choice) (o : Outcome) (rest : List Word) → txns.count ≤ 64 → IsTold txns.count o
+    → can_give c (exactly o) ≡ true → can_stand x (exactly o) ≡ true → possible txns x c (outcome_words o ++ rest) ≡ Ok (exactly o, rest)
+possible_given txns x c o rest most h can stands =
     let ws = outcome_words o ++ rest in
-    let tested : Read OutcomePattern → Read OutcomePattern = λ r. r >>= λ t. if can_give c t.0 then Ok t else refused (expected.OutcomeOf c) ws in
-    ap tested (outcome_given txns o rest most h) ∙ ap (λ b. if b then Ok (exactly o, rest) else refused (expected.OutcomeOf c) ws) can
+    let tested : Read OutcomePattern → Read OutcomePattern = λ r. r >>= λ t.
+    if can_give c t.0 && can_stand x t.0 then Ok t else refused (expected.OutcomeOf c) ws in
+    ap tested (outcome_given txns o rest most h)
+    ∙ ap (λ b. if b then Ok (exactly o, rest) else refused (expected.OutcomeOf c) ws) (and_from _ _ can stands)
 
 -- so it is told
-told_given : (txns : Txns) (c : Choice) (o : Outcome) (rest : List Word) → txns.count ≤ 64 → IsTold txns.count o → can_give c (exactly o) ≡ true
-    → told_of txns c (codes "->" ∷ (outcome_words o ++ rest)) ≡ Ok (Some (exactly o), rest)
-told_given txns c o rest most h can =
+told_given : (txns : Txns) (x : Actor) (c : Choice) (o : Outcome) (rest : List Word) → txns.count ≤ 64 → IsTold txns.count o
+    → can_give c (exactly o) ≡ true → can_stand x (exactly o) ≡ true
+    → told_of txns x c (codes "->" ∷ (outcome_words o ++ rest)) ≡ Ok (Some (exactly o), rest)
+told_given txns x c o rest most h can stands =
     let ws = outcome_words o ++ rest in
-    ap (λ b. if b then Ok (None, after ws) else made Some (possible txns c ws)) (known o rest)
-    ∙ ap (made Some) (possible_given txns c o rest most h can)
+    ap (λ b. if b then Ok (None, after ws) else made Some (possible txns x c ws)) (known o rest)
+    ∙ ap (made Some) (possible_given txns x c o rest most h can stands)
 
 -- a line of the choice may tell the rows, if there are any
 abbrev MayTell : Choice → Option (List Row) → Type 0
@@ -375,30 +419,66 @@ rows_given c (Some rows) h =
 
 -- ---- the whole line
 
+-- what comes behind the choice
+abbrev told_words : Observation → List Word
+told_words o = codes "->" ∷ (outcome_words o.entry.outcome ++ shown_words o)
+
+-- its words in the log of an actor
+abbrev logged_words : Actor → Observation → List Word
+logged_words x o = log_word x ∷ (after (choice_words o.entry.choice) ++ told_words o)
+
+-- the choice is read in the log of an actor, and the outcome may stand there
+abbrev MayStand : Txns → Actor → Observation → Type 0
+MayStand txns x o =
+    (choice_of txns x (after (choice_words o.entry.choice) ++ told_words o) ≡ Ok (o.entry.choice, told_words o))
+    × (can_stand x (exactly o.entry.outcome) ≡ true)
+
 -- all of a step
-whole_given : (txns : Txns) (o : Observation) → txns.count ≤ 64 → names_below txns.count o.entry.choice ≡ true → IsTold txns.count o.entry.outcome
-    → can_give o.entry.choice (exactly o.entry.outcome) ≡ true → IsShown o → AreShown o → whole txns (step_words o) ≡ Ok (in_full o)
-whole_given txns o most named h can shown rows =
+whole_given : (txns : Txns) (x : Actor) (o : Observation) → txns.count ≤ 64 → MayStand txns x o → IsTold txns.count o.entry.outcome
+    → can_give o.entry.choice (exactly o.entry.outcome) ≡ true → IsShown o → AreShown o → whole txns (logged_words x o) ≡ Ok (in_log x o)
+whole_given txns x o most may h can shown rows =
     let e = o.entry in
     let told = exactly e.outcome in
-    let last : Choice → Option OutcomePattern → Option ℕ → Option Kind → Result (Option (List Row)) Misfit → Result LogLine Misfit = λ c t v k r.
-    r >>= λ rs. Ok (record { choice = c; told = t; value = v; sent = k; rows = rs }) in
-    let fourth : Choice → Option OutcomePattern → Option ℕ → Read (Option Kind) → Result LogLine Misfit = λ c t v r.
-    r >>= λ k. last c t v k.0 (rows_of c k.1) in
-    let third : Choice → Option OutcomePattern → Read (Option ℕ) → Result LogLine Misfit = λ c t r. r >>= λ v. fourth c t v.0 (sent_of c v.1) in
-    let second : Choice → Read (Option OutcomePattern) → Result LogLine Misfit = λ c r. r >>= λ t. third c t.0 (value_behind t.0 t.1) in
-    let all : Read Choice → Result LogLine Misfit = λ r. r >>= λ c. second c.0 (told_of txns c.0 c.1) in
-    ap all (choice_given txns e.choice (codes "->" ∷ (outcome_words e.outcome ++ shown_words o)) most named)
-    ∙ ap (second e.choice) (told_given txns e.choice e.outcome (shown_words o) most h can)
-    ∙ ap (third e.choice (Some told)) (value_given e.outcome o.value e.sent o.rows shown)
-    ∙ ap (fourth e.choice (Some told) o.value) (sent_given e.choice e.sent o.rows rows)
-    ∙ ap (last e.choice (Some told) o.value e.sent) (rows_given e.choice o.rows rows)
+    let last : Actor → Choice → Option OutcomePattern → Option ℕ → Option Kind → Result (Option (List Row)) Misfit → Result LogLine Misfit =
+    λ y c t v k r. r >>= λ rs. Ok (record { log = y; choice = c; told = t; value = v; sent = k; rows = rs }) in
+    let fifth : Actor → Choice → Option OutcomePattern → Option ℕ → Read (Option Kind) → Result LogLine Misfit = λ y c t v r.
+    r >>= λ k. last y c t v k.0 (rows_of c k.1) in
+    let fourth : Actor → Choice → Option OutcomePattern → Read (Option ℕ) → Result LogLine Misfit = λ y c t r.
+    r >>= λ v. fifth y c t v.0 (sent_of c v.1) in
+    let third : Actor → Choice → Read (Option OutcomePattern) → Result LogLine Misfit = λ y c r.
+    r >>= λ t. fourth y c t.0 (value_behind t.0 t.1) in
+    let second : Actor → Read Choice → Result LogLine Misfit = λ y r. r >>= λ c. third y c.0 (told_of txns y c.0 c.1) in
+    let all : Read Actor → Result LogLine Misfit = λ r. r >>= λ y. second y.0 (choice_of txns y.0 y.1) in
+    ap all (whose_given x (after (choice_words e.choice) ++ told_words o))
+    ∙ ap (second x) may.0
+    ∙ ap (third x e.choice) (told_given txns x e.choice e.outcome (shown_words o) most h can may.1)
+    ∙ ap (fourth x e.choice (Some told)) (value_given e.outcome o.value e.sent o.rows shown)
+    ∙ ap (fifth x e.choice (Some told) o.value) (sent_given e.choice e.sent o.rows rows)
+    ∙ ap (last x e.choice (Some told) o.value e.sent) (rows_given e.choice o.rows rows)
 
--- the words of all that a step shows are a line of a log, which leaves nothing of it out
+-- they are a line of a log, which leaves nothing of the step out
+line_given : (txns : Txns) (x : Actor) (o : Observation) → txns.count ≤ 64 → MayStand txns x o → IsTold txns.count o.entry.outcome
+    → can_give o.entry.choice (exactly o.entry.outcome) ≡ true → IsShown o → AreShown o → line_of txns (logged_words x o) ≡ Ok (Step (in_log x o))
+line_given txns x o most may h can shown rows =
+    let ws = logged_words x o in
+    ap (λ b. placed (length ws) (if b then line.gap ws else line.step (whole txns ws))) (no_gap o.entry.choice (told_words o))
+    ∙ ap (λ r. placed (length ws) (line.step r)) (whole_given txns x o most may h can shown rows)
+
+-- so are the words of a step in the log of its actor
 pub step_given : (txns : Txns) (o : Observation) → txns.count ≤ 64 → names_below txns.count o.entry.choice ≡ true → IsTold txns.count o.entry.outcome
     → can_give o.entry.choice (exactly o.entry.outcome) ≡ true → IsShown o → AreShown o → line_of txns (step_words o) ≡ Ok (Step (in_full o))
 step_given txns o most named h can shown rows =
-    let ws = step_words o in
-    ap (λ b. placed (length ws) (if b then line.gap ws else line.step (whole txns ws)))
-    (no_gap o.entry.choice (codes "->" ∷ (outcome_words o.entry.outcome ++ shown_words o)))
-    ∙ ap (λ r. placed (length ws) (line.step r)) (whole_given txns o most named h can shown rows)
+    let c = o.entry.choice in
+    ap (line_of txns) (sym (own_first c (told_words o)))
+    ∙ line_given txns (actor_of c) o most (own_given txns c (told_words o) most named, own_stands c (exactly o.entry.outcome) can) h can shown rows
+
+-- and those of a choice of the client in the log of a node
+pub shared_given : (txns : Txns) (n : Node) (o : Observation) → txns.count ≤ 64 → actor_of o.entry.choice ≡ actor.C
+    → names_below txns.count o.entry.choice ≡ true → IsTold txns.count o.entry.outcome
+    → can_give o.entry.choice (exactly o.entry.outcome) ≡ true → can_stand (actor_at n) (exactly o.entry.outcome) ≡ true
+    → IsShown o → AreShown o → line_of txns (words_in (actor_at n) o) ≡ Ok (Step (in_log (actor_at n) o))
+shared_given txns n o most client named h can stands shown rows =
+    let c = o.entry.choice in
+    let x = actor_at n in
+    ap (λ ws. line_of txns (log_word x ∷ after ws)) (sym (own_first c (told_words o)))
+    ∙ line_given txns x o most (client_given txns n c (told_words o) client most named, stands) h can shown rows

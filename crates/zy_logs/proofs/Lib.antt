@@ -4,3 +4,4 @@ pub mod Worked
 pub mod FullLemmas
 mod ShownLemmas
 mod RowLemmas
+mod StandLemmas

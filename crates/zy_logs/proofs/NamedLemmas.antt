@@ -1,19 +1,23 @@
--- Lines that are read name transactions that there are, and are no more than there may be.
-use Rattle.std.proofs.Common.{◌≡◌, ℕ, ◌+◌, ◌-◌, ◌≤◌, Bool, true, false, List, [], ◌∷◌, length, codes, refl, ap, subst, inl, inr, arith}
+-- Lines that are read name transactions that there are, stand in a log, and are no more than there may be.
+use Rattle.std.proofs.Common.{◌≡◌, ◌⊎◌, ℕ, map, ◌+◌, ◌-◌, ◌≤◌, Bool, true, false, List, [], ◌∷◌, length, codes, refl, subst, inl, inr, arith}
 use Rattle.std.specs.Prelude.{Option, Some, None, Result, Ok, Err, nat_le, nat_lt, if◌then◌else◌}
 use Rattle.std.specs.Option.{option_and_then}
+use Rattle.std.specs.List.{All}
+use Rattle.std.proofs.lemmas.List.Elements.{All-nil, All-cons}
 use Rattle.std.proofs.lemmas.Bool.{cases_Bool, leb-true}
 use Rattle.zy_isa.specs.declared.node.Node.{Node}
 use Rattle.zy_isa.specs.declared.node.Node.TheVariants.{A, B}
 use Rattle.zy_isa.specs.declared.node.Actor.{Actor}
 use Rattle.zy_isa.specs.declared.choice.Choice.{Choice}
 use Rattle.zy_isa.specs.declared.choice.Choice.TheVariants as choice
-use Rattle.zy_isa.specs.Choices.{names_below}
+use Rattle.zy_isa.specs.Choices.{actor_at, actor_of, names_below}
+use Rattle.zy_isa.specs.declared.node.Actor.TheVariants as actor
 use Rattle.zy_isa.specs.Results.{◌>>=◌}
 use Rattle.zy_isa.specs.Scenario.{AreNamed}
 use Rattle.zy_isa.proofs.ResultLemmas.{bind_ok}
 use Rattle.zy_text.specs.Words.{lines_of, words_of, number_of, is_numeral}
 use Rattle.zy_text.specs.Names.{is_name}
+use Rattle.zy_logs.specs.declared.expected.ExpectedInLog.{ExpectedInLog}
 use Rattle.zy_logs.specs.declared.expected.ExpectedInLog.TheVariants as expected
 use Rattle.zy_logs.specs.declared.expected.Misread.{Misread}
 use Rattle.zy_logs.specs.declared.faults.LogLineFault.{LogLineFault}
@@ -28,7 +32,7 @@ use Rattle.zy_logs.specs.Txns.{below}
 use Rattle.zy_text.specs.Names.{place_among}
 use Rattle.zy_logs.specs.Parts.{txn}
 use Rattle.zy_logs.specs.Lines.{client_choice, node_choice, choice_of, told_of, value_behind, sent_of, rows_of, step, whole, whose, gap_end, gap, gap_or_step, placed, line_of}
-use Rattle.zy_logs.specs.Logs.{in_line, steps_of, steps_in, fitting, line_at, listed, joined, lines_from, logs_of, choices_of}
+use Rattle.zy_logs.specs.Logs.{IsInALog, in_line, steps, steps_of, steps_in, fitting, line_at, listed, joined, lines_from, logs_of, choices_of}
 
 -- ---- the number of a transaction
 
@@ -66,188 +70,207 @@ below_txn txns ws =
 
 -- ---- a choice
 
--- a choice that is read names a transaction below count
-abbrev Named : ℕ → Read Choice → Type 0
-Named count (Ok x) = names_below count x.0 ≡ true
-Named count (Err s) = Unit {0}
+-- a choice names a transaction below count, and is of the actor in whose log it stands, or of the client
+abbrev Fits : ℕ → Actor → Choice → Type 0
+Fits count x c = (names_below count c ≡ true) × ((x ≡ actor_of c) ⊎ (actor_of c ≡ actor.C))
+
+-- so does one that is read in the log of an actor
+abbrev ChoiceFits : ℕ → Actor → Read Choice → Type 0
+ChoiceFits count x (Ok c) = Fits count x c.0
+ChoiceFits count x (Err s) = Unit {0}
 
 -- one of two
-named_either : (count : ℕ) (b : Bool) (x y : Read Choice) → Named count x → Named count y → Named count (if b then x else y)
-named_either count true x y left right = left
-named_either count false x y left right = right
+fits_either : (count : ℕ) (x : Actor) (b : Bool) (r s : Read Choice) → ChoiceFits count x r → ChoiceFits count x s
+    → ChoiceFits count x (if b then r else s)
+fits_either count x true r s left right = left
+fits_either count x false r s left right = right
 
 -- of the client
-named_begin : (count : ℕ) (r : Read ℕ) → Below count r → Named count (made choice.Begin r)
-named_begin count (Ok x) e = e
-named_begin count (Err s) e = tt
+begin_fits : (count : ℕ) (x : Actor) (r : Read ℕ) → Below count r → ChoiceFits count x (made choice.Begin r)
+begin_fits count x (Ok t) e = (e, inr refl)
+begin_fits count x (Err s) e = tt
 
-named_kill : (count : ℕ) (r : Read ℕ) → Below count r → Named count (made choice.Kill r)
-named_kill count (Ok x) e = e
-named_kill count (Err s) e = tt
+kill_fits : (count : ℕ) (x : Actor) (r : Read ℕ) → Below count r → ChoiceFits count x (made choice.Kill r)
+kill_fits count x (Ok t) e = (e, inr refl)
+kill_fits count x (Err s) e = tt
 
-named_client : (txns : Txns) (ws : List Word) → Named txns.count (client_choice txns ws)
-named_client txns ws =
+client_fits : (txns : Txns) (x : Actor) (e : ExpectedInLog) (ws : List Word) → ChoiceFits txns.count x (client_choice txns e ws)
+client_fits txns x e ws =
     let count = txns.count in
     let t = below_txn txns (after ws) in
-    named_either count (begin_with (codes "start") ws) _ _ refl
-    (named_either count (begin_with (codes "begin") ws) _ _ (named_begin count _ t)
-    (named_either count (begin_with (codes "kill") ws) _ _ (named_kill count _ t) tt))
+    fits_either count x (begin_with (codes "start") ws) _ _ (refl, inr refl)
+    (fits_either count x (begin_with (codes "begin") ws) _ _ (begin_fits count x _ t)
+    (fits_either count x (begin_with (codes "kill") ws) _ _ (kill_fits count x _ t) tt))
 
 -- of a node
-named_run : (count : ℕ) (n : Node) (r : Read ℕ) → Below count r → Named count (made (choice.Run n) r)
-named_run count n (Ok x) e = e
-named_run count n (Err s) e = tt
+run_fits : (count : ℕ) (n : Node) (r : Read ℕ) → Below count r → ChoiceFits count (actor_at n) (made (choice.Run n) r)
+run_fits count n (Ok t) e = (e, inl refl)
+run_fits count n (Err s) e = tt
 
-named_node : (txns : Txns) (n : Node) (ws : List Word) → Named txns.count (node_choice txns n ws)
-named_node txns n ws =
+node_fits : (txns : Txns) (n : Node) (ws : List Word) → ChoiceFits txns.count (actor_at n) (node_choice txns n ws)
+node_fits txns n ws =
     let count = txns.count in
-    named_either count (begin_with (codes "run") ws) _ _ (named_run count n _ (below_txn txns (after ws)))
-    (named_either count (begin_with (codes "take") ws) _ _ refl
-    (named_either count (begin_with (codes "finish") ws) _ _ refl
-    (named_either count (begin_with (codes "push") ws) _ _ refl tt)))
+    let x = actor_at n in
+    fits_either count x (begin_with (codes "run") ws) _ _ (run_fits count n _ (below_txn txns (after ws)))
+    (fits_either count x (begin_with (codes "take") ws) _ _ (refl, inl refl)
+    (fits_either count x (begin_with (codes "finish") ws) _ _ (refl, inl refl)
+    (fits_either count x (begin_with (codes "push") ws) _ _ (refl, inl refl) (client_fits txns x expected.NodeAction ws))))
 
--- of any actor
-named_choice : (txns : Txns) (ws : List Word) → Named txns.count (choice_of txns ws)
-named_choice txns ws =
-    let count = txns.count in
-    named_either count (begin_with (codes "C") ws) _ _ (named_client txns (after ws))
-    (named_either count (begin_with (codes "A") ws) _ _ (named_node txns A (after ws))
-    (named_either count (begin_with (codes "B") ws) _ _ (named_node txns B (after ws)) tt))
+-- in any log
+choice_fits : (txns : Txns) (x : Actor) (ws : List Word) → ChoiceFits txns.count x (choice_of txns x ws)
+choice_fits txns actor.C ws = client_fits txns actor.C expected.ClientAction ws
+choice_fits txns actor.A ws = node_fits txns A ws
+choice_fits txns actor.B ws = node_fits txns B ws
 
 -- ---- a line
 
--- a line that is read has a choice that names a transaction below count
-abbrev ReadNamed : ℕ → Result LogLine Misfit → Type 0
-ReadNamed count (Ok line) = names_below count line.choice ≡ true
-ReadNamed count (Err s) = Unit {0}
+-- so does the choice of a line that is read
+abbrev LineFits : ℕ → Result LogLine Misfit → Type 0
+LineFits count (Ok line) = Fits count line.log line.choice
+LineFits count (Err s) = Unit {0}
 
--- the choice of a line, if it was read
-abbrev chosen : Choice → Result LogLine Misfit → Choice
-chosen c (Ok line) = line.choice
-chosen c (Err s) = c
-
--- the choice of a line that is read is the one that its words spell
-choice_read : (txns : Txns) (ws : List Word) (line : LogLine) → whole txns ws ≡ Ok line
-    → (c : Choice × List Word) × (choice_of txns ws ≡ Ok c) × (c.0 ≡ line.choice)
-choice_read txns ws line e =
-    let c = bind_ok (choice_of txns ws) _ line e in
-    let t = bind_ok (told_of txns c.0.0 c.0.1) _ line c.2 in
+-- the log and the choice of a line are what its first words spell
+whole_fits : (txns : Txns) (ws : List Word) (line : LogLine) → whole txns ws ≡ Ok line → Fits txns.count line.log line.choice
+whole_fits txns ws line e =
+    let x = bind_ok (whose ws) _ line e in
+    let c = bind_ok (choice_of txns x.0.0 x.0.1) _ line x.2 in
+    let t = bind_ok (told_of txns x.0.0 c.0.0 c.0.1) _ line c.2 in
     let v = bind_ok (value_behind t.0.0 t.0.1) _ line t.2 in
     let k = bind_ok (sent_of c.0.0 v.0.1) _ line v.2 in
     let r = bind_ok (rows_of c.0.0 k.0.1) _ line k.2 in
-    (c.0, c.1, ap (chosen c.0.0) r.2)
+    subst (LineFits txns.count) r.2 (subst (ChoiceFits txns.count x.0.0) c.1 (choice_fits txns x.0.0 x.0.1))
 
--- so it names a transaction below count
-named_whole : (txns : Txns) (ws : List Word) (line : LogLine) → whole txns ws ≡ Ok line → names_below txns.count line.choice ≡ true
-named_whole txns ws line e =
-    let c = choice_read txns ws line e in
-    subst (λ d. names_below txns.count d ≡ true) c.2 (subst (Named txns.count) c.1 (named_choice txns ws))
+-- so it is where a line is read, or not
+line_fits : (count : ℕ) (r : Result LogLine Misfit) → ((line : LogLine) → r ≡ Ok line → Fits count line.log line.choice) → LineFits count r
+line_fits count (Ok line) h = h line refl
+line_fits count (Err s) h = tt
 
-read_named : (count : ℕ) (r : Result LogLine Misfit) → ((line : LogLine) → r ≡ Ok line → names_below count line.choice ≡ true) → ReadNamed count r
-read_named count (Ok line) h = h line refl
-read_named count (Err s) h = tt
+-- what is read fits, if it is a step
+abbrev LoggedFits : ℕ → Logged → Type 0
+LoggedFits count (Step line) = Fits count line.log line.choice
+LoggedFits count (Gap x) = Unit {0}
 
--- what is read names one below count, if it is a step
-abbrev LoggedNamed : ℕ → Logged → Type 0
-LoggedNamed count (Step line) = names_below count line.choice ≡ true
-LoggedNamed count (Gap x) = Unit {0}
-
-abbrev ReadsNamed : ℕ → Result Logged Misfit → Type 0
-ReadsNamed count (Ok x) = LoggedNamed count x
-ReadsNamed count (Err s) = Unit {0}
+abbrev ReadFits : ℕ → Result Logged Misfit → Type 0
+ReadFits count (Ok x) = LoggedFits count x
+ReadFits count (Err s) = Unit {0}
 
 -- one of two
-reads_either : (count : ℕ) (b : Bool) (x y : Result Logged Misfit) → ReadsNamed count x → ReadsNamed count y → ReadsNamed count (if b then x else y)
-reads_either count true x y left right = left
-reads_either count false x y left right = right
+either_fits : (count : ℕ) (b : Bool) (x y : Result Logged Misfit) → ReadFits count x → ReadFits count y → ReadFits count (if b then x else y)
+either_fits count true x y left right = left
+either_fits count false x y left right = right
 
 -- a gap names none
-named_gap_end : (count : ℕ) (x : Actor) (ws : List Word) → ReadsNamed count (gap_end x ws)
-named_gap_end count x ws = reads_either count (are_none ws) (Ok (Gap x)) (Err (stop expected.EndOfGap ws)) tt tt
+gap_end_fits : (count : ℕ) (x : Actor) (ws : List Word) → ReadFits count (gap_end x ws)
+gap_end_fits count x ws = either_fits count (are_none ws) (Ok (Gap x)) (Err (stop expected.EndOfGap ws)) tt tt
 
-named_gap : (count : ℕ) (r : Read Actor) → ReadsNamed count (r >>= λ x. gap_end x.0 (after x.1))
-named_gap count (Ok x) = named_gap_end count x.0 (after x.1)
-named_gap count (Err s) = tt
+gap_fits : (count : ℕ) (r : Read Actor) → ReadFits count (r >>= λ x. gap_end x.0 (after x.1))
+gap_fits count (Ok x) = gap_end_fits count x.0 (after x.1)
+gap_fits count (Err s) = tt
 
 -- a step does
-named_step : (count : ℕ) (r : Result LogLine Misfit) → ReadNamed count r → ReadsNamed count (step r)
-named_step count (Ok x) e = e
-named_step count (Err s) e = tt
+step_fits : (count : ℕ) (r : Result LogLine Misfit) → LineFits count r → ReadFits count (step r)
+step_fits count (Ok x) e = e
+step_fits count (Err s) e = tt
 
 -- so does what is read in all
-named_read : (txns : Txns) (ws : List Word) → ReadsNamed txns.count (gap_or_step txns ws)
-named_read txns ws = reads_either txns.count (begin_with (codes "...") (after ws)) (gap ws) (step (whole txns ws))
-    (named_gap txns.count (whose ws))
-    (named_step txns.count (whole txns ws) (read_named txns.count (whole txns ws) (named_whole txns ws)))
+read_fits : (txns : Txns) (ws : List Word) → ReadFits txns.count (gap_or_step txns ws)
+read_fits txns ws = either_fits txns.count (begin_with (codes "...") (after ws)) (gap ws) (step (whole txns ws))
+    (gap_fits txns.count (whose ws))
+    (step_fits txns.count (whole txns ws) (line_fits txns.count (whole txns ws) (whole_fits txns ws)))
 
 -- so does one whose fault has a place
-abbrev LineNamed : ℕ → Result Logged Misread → Type 0
-LineNamed count (Ok logged) = LoggedNamed count logged
-LineNamed count (Err e) = Unit {0}
+abbrev PlacedFits : ℕ → Result Logged Misread → Type 0
+PlacedFits count (Ok logged) = LoggedFits count logged
+PlacedFits count (Err e) = Unit {0}
 
-named_placed : (count size : ℕ) (r : Result Logged Misfit) → ReadsNamed count r → LineNamed count (placed size r)
-named_placed count size (Ok x) e = e
-named_placed count size (Err s) e = tt
+placed_fits : (count size : ℕ) (r : Result Logged Misfit) → ReadFits count r → PlacedFits count (placed size r)
+placed_fits count size (Ok x) e = e
+placed_fits count size (Err s) e = tt
 
-named_line : (txns : Txns) (ws : List Word) → LineNamed txns.count (line_of txns ws)
-named_line txns ws = named_placed txns.count (length ws) (gap_or_step txns ws) (named_read txns ws)
+line_of_fits : (txns : Txns) (ws : List Word) → PlacedFits txns.count (line_of txns ws)
+line_of_fits txns ws = placed_fits txns.count (length ws) (gap_or_step txns ws) (read_fits txns ws)
 
 -- ---- the lines of a text
 
--- what a line of a text says names transactions below count
-abbrev AtNamed : ℕ → Result (Option NumberedLine) LogLineFault → Type 0
-AtNamed count (Ok first) = AreNamed count (choices_of (listed first))
-AtNamed count (Err r) = Unit {0}
+-- lines of steps fit
+abbrev AllFit : ℕ → List LogLine → Type 0
+AllFit count [] = Unit {0}
+AllFit count (line ∷ lines) = Fits count line.log line.choice × AllFit count lines
+
+-- so does what a line of a text says
+abbrev AtFits : ℕ → Result (Option NumberedLine) LogLineFault → Type 0
+AtFits count (Ok first) = AllFit count (steps (listed first))
+AtFits count (Err r) = Unit {0}
 
 -- where it is a step or a gap
-named_numbered : (count n : ℕ) (logged : Logged) → LoggedNamed count logged
-    → AreNamed count (choices_of (listed (Some (record { number = n; logged = logged }))))
-named_numbered count n (Step line) e = (e, tt)
-named_numbered count n (Gap x) e = tt
+numbered_fits : (count n : ℕ) (logged : Logged) → LoggedFits count logged
+    → AllFit count (steps (listed (Some (record { number = n; logged = logged }))))
+numbered_fits count n (Step line) e = (e, tt)
+numbered_fits count n (Gap x) e = tt
 
-named_fitting : (count gap room n : ℕ) (r : Result Logged Misread) → LineNamed count r → AtNamed count (in_line n r >>= fitting gap room n)
-named_fitting count gap room n (Ok logged) e = elim (nat_le (steps_of gap logged) room) as (λ (b : Bool). AtNamed count
+fitting_fits : (count gap room n : ℕ) (r : Result Logged Misread) → PlacedFits count r → AtFits count (in_line n r >>= fitting gap room n)
+fitting_fits count gap room n (Ok logged) e = elim (nat_le (steps_of gap logged) room) as (λ (b : Bool). AtFits count
     (if b then Ok (Some (record { number = n; logged = logged })) else Err (record { line = n; word = 0; expected = expected.FewerLines })))
-    [ true ↦ named_numbered count n logged e | false ↦ tt ]
-named_fitting count gap room n (Err x) e = tt
+    [ true ↦ numbered_fits count n logged e | false ↦ tt ]
+fitting_fits count gap room n (Err x) e = tt
 
-named_at : (txns : Txns) (gap room n : ℕ) (ws : List Word) → AtNamed txns.count (line_at txns gap room n ws)
-named_at txns gap room n [] = tt
-named_at txns gap room n (w ∷ ws) = named_fitting txns.count gap room n (line_of txns (w ∷ ws)) (named_line txns (w ∷ ws))
+at_fits : (txns : Txns) (gap room n : ℕ) (ws : List Word) → AtFits txns.count (line_at txns gap room n ws)
+at_fits txns gap room n [] = tt
+at_fits txns gap room n (w ∷ ws) = fitting_fits txns.count gap room n (line_of txns (w ∷ ws)) (line_of_fits txns (w ∷ ws))
 
 -- what lines say does
-abbrev AllNamed : ℕ → Result (List NumberedLine) LogLineFault → Type 0
-AllNamed count (Ok lines) = AreNamed count (choices_of lines)
-AllNamed count (Err r) = Unit {0}
+abbrev AllLinesFit : ℕ → Result (List NumberedLine) LogLineFault → Type 0
+AllLinesFit count (Ok lines) = AllFit count (steps lines)
+AllLinesFit count (Err r) = Unit {0}
 
--- the choices of a line and of those that come after it
-named_behind : (count n : ℕ) (logged : Logged) (lines : List NumberedLine) → AreNamed count (choices_of (record { number = n; logged = logged } ∷ []))
-    → AreNamed count (choices_of lines) → AreNamed count (choices_of (record { number = n; logged = logged } ∷ lines))
-named_behind count n (Step line) lines a b = (a.0, b)
-named_behind count n (Gap x) lines a b = b
+-- a line and those that come after it
+behind_fits : (count n : ℕ) (logged : Logged) (lines : List NumberedLine) → AllFit count (steps (record { number = n; logged = logged } ∷ []))
+    → AllFit count (steps lines) → AllFit count (steps (record { number = n; logged = logged } ∷ lines))
+behind_fits count n (Step line) lines a b = (a.0, b)
+behind_fits count n (Gap x) lines a b = b
 
-named_joined : (count : ℕ) (first : Option NumberedLine) (said : Result (List NumberedLine) LogLineFault)
-    → AreNamed count (choices_of (listed first)) → AllNamed count said → AllNamed count (joined (listed first) said)
-named_joined count None (Ok lines) a b = b
-named_joined count (Some l) (Ok lines) a b = named_behind count l.number l.logged lines a b
-named_joined count None (Err r) a b = tt
-named_joined count (Some l) (Err r) a b = tt
+joined_fits : (count : ℕ) (first : Option NumberedLine) (said : Result (List NumberedLine) LogLineFault)
+    → AllFit count (steps (listed first)) → AllLinesFit count said → AllLinesFit count (joined (listed first) said)
+joined_fits count None (Ok lines) a b = b
+joined_fits count (Some l) (Ok lines) a b = behind_fits count l.number l.logged lines a b
+joined_fits count None (Err r) a b = tt
+joined_fits count (Some l) (Err r) a b = tt
 
-named_more : (count : ℕ) (r : Result (Option NumberedLine) LogLineFault) (rest : Option NumberedLine → Result (List NumberedLine) LogLineFault)
-    → AtNamed count r → ((first : Option NumberedLine) → AllNamed count (rest first)) → AllNamed count (r >>= λ first. joined (listed first) (rest first))
-named_more count (Ok first) rest a b = named_joined count first (rest first) a (b first)
-named_more count (Err x) rest a b = tt
+more_fits : (count : ℕ) (r : Result (Option NumberedLine) LogLineFault) (rest : Option NumberedLine → Result (List NumberedLine) LogLineFault)
+    → AtFits count r → ((first : Option NumberedLine) → AllLinesFit count (rest first)) → AllLinesFit count (r >>= λ first. joined (listed first) (rest first))
+more_fits count (Ok first) rest a b = joined_fits count first (rest first) a (b first)
+more_fits count (Err x) rest a b = tt
 
-named_from : (txns : Txns) (gap room n : ℕ) (ls : List (List ℕ)) → AllNamed txns.count (lines_from txns gap room n ls)
-named_from txns gap room n [] = tt
-named_from txns gap room n (l ∷ ls) = named_more txns.count (line_at txns gap room n (words_of l))
-    (λ first. lines_from txns gap (room - steps_in gap (listed first)) (n + 1) ls) (named_at txns gap room n (words_of l))
-    (λ first. named_from txns gap (room - steps_in gap (listed first)) (n + 1) ls)
+from_fits : (txns : Txns) (gap room n : ℕ) (ls : List (List ℕ)) → AllLinesFit txns.count (lines_from txns gap room n ls)
+from_fits txns gap room n [] = tt
+from_fits txns gap room n (l ∷ ls) = more_fits txns.count (line_at txns gap room n (words_of l))
+    (λ first. lines_from txns gap (room - steps_in gap (listed first)) (n + 1) ls) (at_fits txns gap room n (words_of l))
+    (λ first. from_fits txns gap (room - steps_in gap (listed first)) (n + 1) ls)
+
+-- what the lines of a text say fits
+all_fit : (txns : Txns) (gap most first : ℕ) (text : List ℕ) (lines : List NumberedLine)
+    → logs_of txns gap most first text ≡ Ok lines → AllFit txns.count (steps lines)
+all_fit txns gap most first text lines e = subst (AllLinesFit txns.count) e (from_fits txns gap most first (lines_of text))
+
+-- lines that fit name transactions that there are
+all_named : (count : ℕ) (lines : List LogLine) → AllFit count lines → AreNamed count (map (λ (line : LogLine). line.choice) lines)
+all_named count [] h = tt
+all_named count (line ∷ lines) h = (h.0.0, all_named count lines h.1)
+
+-- each of them stands in a log
+all_placed : (count : ℕ) (lines : List LogLine) → AllFit count lines → All IsInALog lines
+all_placed count [] h = All-nil IsInALog
+all_placed count (line ∷ lines) h = All-cons IsInALog line lines h.0.1 (all_placed count lines h.1)
 
 -- the lines of a text name transactions that there are
 pub logs_named : (txns : Txns) (gap most first : ℕ) (text : List ℕ) (lines : List NumberedLine)
     → logs_of txns gap most first text ≡ Ok lines → AreNamed txns.count (choices_of lines)
-logs_named txns gap most first text lines e = subst (AllNamed txns.count) e (named_from txns gap most first (lines_of text))
+logs_named txns gap most first text lines e = all_named txns.count (steps lines) (all_fit txns gap most first text lines e)
+
+-- each stands in a log
+pub logs_placed : (txns : Txns) (gap most first : ℕ) (text : List ℕ) (lines : List NumberedLine)
+    → logs_of txns gap most first text ≡ Ok lines → All IsInALog (steps lines)
+logs_placed txns gap most first text lines e = all_placed txns.count (steps lines) (all_fit txns gap most first text lines e)
 
 -- ---- how many steps they count for
 

@@ -1,9 +1,10 @@
 -- Worked lines: what some words spell, and what agrees with it, computed.
-use Rattle.std.proofs.Common.{◌≡◌, true, ℕ, ◌++◌, List, [], ◌∷◌, Option, None, Some, Ok, Err, codes, refl, arith}
+use Rattle.std.proofs.Common.{◌≡◌, true, ℕ, ◌++◌, List, [], ◌∷◌, Option, None, Some, Ok, Err, codes, refl, inl, inr, arith}
 use Rattle.std.specs.Fmt.{digits}
 use Rattle.zy_isa.specs.declared.node.Node.TheVariants.{A, B}
+use Rattle.zy_isa.specs.declared.node.Actor.{Actor}
 use Rattle.zy_isa.specs.declared.node.Actor.TheVariants as actor
-use Rattle.zy_isa.specs.declared.choice.Choice.TheVariants.{Take, Push, Finish, Run, Begin, Kill}
+use Rattle.zy_isa.specs.declared.choice.Choice.TheVariants.{Take, Push, Finish, Run, Start, Begin, Kill}
 use Rattle.zy_isa.specs.declared.row.Row.{Row}
 use Rattle.zy_isa.specs.Rows.{row}
 use Rattle.zy_model.specs.declared.kind.Kind.TheVariants as message
@@ -20,7 +21,7 @@ use Rattle.zy_text.specs.Names.{place_among}
 use Rattle.zy_patterns.specs.Vocabulary as word
 use Rattle.zy_patterns.specs.Patterns.{matches}
 use Rattle.zy_logs.specs.Agrees.{Agrees}
-use Rattle.zy_logs.specs.InFull.{step_words}
+use Rattle.zy_logs.specs.InFull.{step_words, words_in}
 use Rattle.zy_logs.specs.Lines as line
 use Rattle.zy_logs.specs.Lines.{line_of}
 use Rattle.zy_logs.specs.Logs.{logs_of}
@@ -33,23 +34,23 @@ open_all = 0
 module _ (txns : Txns) where
   -- a choice, its outcome and a message
   takes : line_of txns (words_of (codes "A take -> got ready ! dual"))
-      ≡ Ok (Step (record { choice = Take A; told = Some pattern.GotReady; value = None; sent = Some message.Dual; rows = None }))
+      ≡ Ok (Step (record { log = actor.A; choice = Take A; told = Some pattern.GotReady; value = None; sent = Some message.Dual; rows = None }))
   unfolding open_all
   takes = refl
 
   -- a choice alone
-  alone : line_of txns (words_of (codes "  B take ; nothing was logged")) ≡ Ok (Step (record { choice = Take B; told = None; value = None; sent = None; rows = None }))
+  alone : line_of txns (words_of (codes "  B take ; nothing was logged")) ≡ Ok (Step (record { log = actor.B; choice = Take B; told = None; value = None; sent = None; rows = None }))
   unfolding open_all
   alone = refl
 
   -- what came was not logged, and a message was
-  unknown : line_of txns (words_of (codes "B push -> ? ! page")) ≡ Ok (Step (record { choice = Push B; told = None; value = None; sent = Some message.Page; rows = None }))
+  unknown : line_of txns (words_of (codes "B push -> ? ! page")) ≡ Ok (Step (record { log = actor.B; choice = Push B; told = None; value = None; sent = Some message.Page; rows = None }))
   unfolding open_all
   unknown = refl
 
   -- the number is left out before a message
   without_page : line_of txns (words_of (codes "B push -> pushed ! page"))
-      ≡ Ok (Step (record { choice = Push B; told = Some (pattern.Pushed None); value = None; sent = Some message.Page; rows = None }))
+      ≡ Ok (Step (record { log = actor.B; choice = Push B; told = Some (pattern.Pushed None); value = None; sent = Some message.Page; rows = None }))
   unfolding open_all
   without_page = refl
 
@@ -75,25 +76,25 @@ module _ (txns : Txns) where
 
   -- a transaction by its number
   begins : txns.count ≡ 1 → line_of txns (words_of (codes "C begin 0 -> began A"))
-      ≡ Ok (Step (record { choice = Begin 0; told = Some (pattern.Began (Some A)); value = None; sent = None; rows = None }))
+      ≡ Ok (Step (record { log = actor.C; choice = Begin 0; told = Some (pattern.Began (Some A)); value = None; sent = None; rows = None }))
   unfolding open_all
   begins one = rw one refl
 
   -- and by its name; the number of the commit is left out
   commits : txns.count ≡ 1 → place_among txns.names.now (codes "transfer") ≡ Some 0 → line_of txns (words_of (codes "A run transfer -> committed"))
-      ≡ Ok (Step (record { choice = Run A 0; told = Some (pattern.Committed None); value = None; sent = None; rows = None }))
+      ≡ Ok (Step (record { log = actor.A; choice = Run A 0; told = Some (pattern.Committed None); value = None; sent = None; rows = None }))
   unfolding open_all
   commits one known = rw (known, one) refl
 
   -- `did` and its value, up to the greatest
   value : txns.count ≡ 1 → line_of txns (words_of (codes "A run 0 -> did 4294967295"))
-      ≡ Ok (Step (record { choice = Run A 0; told = Some pattern.Did; value = Some 4294967295; sent = None; rows = None }))
+      ≡ Ok (Step (record { log = actor.A; choice = Run A 0; told = Some pattern.Did; value = Some 4294967295; sent = None; rows = None }))
   unfolding open_all
   value one = rw one refl
 
   -- the value is left out before a message
   without_value : txns.count ≡ 1 → line_of txns (words_of (codes "A run 0 -> did ! pull"))
-      ≡ Ok (Step (record { choice = Run A 0; told = Some pattern.Did; value = None; sent = Some message.Pull; rows = None }))
+      ≡ Ok (Step (record { log = actor.A; choice = Run A 0; told = Some pattern.Did; value = None; sent = Some message.Pull; rows = None }))
   unfolding open_all
   without_value one = rw one refl
 
@@ -126,6 +127,7 @@ module _ (txns : Txns) where
   -- rows, behind the message
   push_rows : line_of txns (words_of (codes "A push -> pushed 0 ! page rows 10=1 20=2"))
       ≡ Ok (Step (record {
+        log = actor.A;
         choice = Push A;
         told = Some (pattern.Pushed (Some 0));
         value = None;
@@ -137,36 +139,36 @@ module _ (txns : Txns) where
 
   -- behind the outcome
   take_rows : line_of txns (words_of (codes "B take -> got page 0 rows 10=1"))
-      ≡ Ok (Step (record { choice = Take B; told = Some (pattern.GotPage (Some 0)); value = None; sent = None; rows = Some (row 10 1 ∷ []) }))
+      ≡ Ok (Step (record { log = actor.B; choice = Take B; told = Some (pattern.GotPage (Some 0)); value = None; sent = None; rows = Some (row 10 1 ∷ []) }))
   unfolding open_all
   take_rows = refl
 
   -- a page without rows
   no_rows : line_of txns (words_of (codes "A take -> got pull 0 ! page rows"))
-      ≡ Ok (Step (record { choice = Take A; told = Some (pattern.GotPull (Some 0)); value = None; sent = Some message.Page; rows = Some [] }))
+      ≡ Ok (Step (record { log = actor.A; choice = Take A; told = Some (pattern.GotPull (Some 0)); value = None; sent = Some message.Page; rows = Some [] }))
   unfolding open_all
   no_rows = refl
 
   -- the page is left out before rows
   rows_of_page : line_of txns (words_of (codes "A push -> pushed rows 10=1"))
-      ≡ Ok (Step (record { choice = Push A; told = Some (pattern.Pushed None); value = None; sent = None; rows = Some (row 10 1 ∷ []) }))
+      ≡ Ok (Step (record { log = actor.A; choice = Push A; told = Some (pattern.Pushed None); value = None; sent = None; rows = Some (row 10 1 ∷ []) }))
   unfolding open_all
   rows_of_page = refl
 
   -- so is the outcome
   rows_of_choice : line_of txns (words_of (codes "A push rows 65535=4294967295"))
-      ≡ Ok (Step (record { choice = Push A; told = None; value = None; sent = None; rows = Some (row 65535 4294967295 ∷ []) }))
+      ≡ Ok (Step (record { log = actor.A; choice = Push A; told = None; value = None; sent = None; rows = Some (row 65535 4294967295 ∷ []) }))
   unfolding open_all
   rows_of_choice = refl
 
   rows_of_unknown : line_of txns (words_of (codes "A push -> ? rows"))
-      ≡ Ok (Step (record { choice = Push A; told = None; value = None; sent = None; rows = Some [] }))
+      ≡ Ok (Step (record { log = actor.A; choice = Push A; told = None; value = None; sent = None; rows = Some [] }))
   unfolding open_all
   rows_of_unknown = refl
 
   -- a finish has no rows, but a transaction may have that name
   named_rows : txns.count ≡ 1 → place_among txns.names.now (codes "rows") ≡ Some 0 → line_of txns (words_of (codes "A finish -> active rows"))
-      ≡ Ok (Step (record { choice = Finish A; told = Some (pattern.Active (Some 0)); value = None; sent = None; rows = None }))
+      ≡ Ok (Step (record { log = actor.A; choice = Finish A; told = Some (pattern.Active (Some 0)); value = None; sent = None; rows = None }))
   unfolding open_all
   named_rows one known = rw (known, one) refl
 
@@ -221,7 +223,7 @@ module _ (txns : Txns) where
 
   -- `killed` is the client's abort alone
   kills : txns.count ≡ 1 → line_of txns (words_of (codes "C kill 0 -> aborted killed"))
-      ≡ Ok (Step (record { choice = Kill 0; told = Some (pattern.Aborted (Some reason.Killed)); value = None; sent = None; rows = None }))
+      ≡ Ok (Step (record { log = actor.C; choice = Kill 0; told = Some (pattern.Aborted (Some reason.Killed)); value = None; sent = None; rows = None }))
   unfolding open_all
   kills one = rw one refl
 
@@ -229,6 +231,39 @@ module _ (txns : Txns) where
       ≡ Err (record { word = 4; expected = expected.OutcomeOf (Run A 0) })
   unfolding open_all
   runs_no_kill one = rw one refl
+
+  -- a choice of the client in the log of the node where it took place
+  starts_at : line_of txns (words_of (codes "A start -> started ! wire"))
+      ≡ Ok (Step (record { log = actor.A; choice = Start; told = Some pattern.Started; value = None; sent = Some message.Wire; rows = None }))
+  unfolding open_all
+  starts_at = refl
+
+  begins_at : txns.count ≡ 1 → line_of txns (words_of (codes "B begin 0 -> began B"))
+      ≡ Ok (Step (record { log = actor.B; choice = Begin 0; told = Some (pattern.Began (Some B)); value = None; sent = None; rows = None }))
+  unfolding open_all
+  begins_at one = rw one refl
+
+  kills_at : txns.count ≡ 1 → line_of txns (words_of (codes "B kill 0 -> aborted killed"))
+      ≡ Ok (Step (record { log = actor.B; choice = Kill 0; told = Some (pattern.Aborted (Some reason.Killed)); value = None; sent = None; rows = None }))
+  unfolding open_all
+  kills_at one = rw one refl
+
+  -- its node is not the other one
+  begins_elsewhere : txns.count ≡ 1 → line_of txns (words_of (codes "B begin 0 -> began A"))
+      ≡ Err (record { word = 4; expected = expected.OutcomeOf (Begin 0) })
+  unfolding open_all
+  begins_elsewhere one = rw one refl
+
+  -- it may be left out
+  begins_there : txns.count ≡ 1 → line_of txns (words_of (codes "A begin 0 -> began"))
+      ≡ Ok (Step (record { log = actor.A; choice = Begin 0; told = Some (pattern.Began None); value = None; sent = None; rows = None }))
+  unfolding open_all
+  begins_there one = rw one refl
+
+  -- the client has no choice of a node
+  client_takes : line_of txns (words_of (codes "C take")) ≡ Err (record { word = 1; expected = expected.ClientAction })
+  unfolding open_all
+  client_takes = refl
 
   -- there is no transaction of this number
   no_txn : txns.count ≡ 1 → line_of txns (words_of (codes "A run 1")) ≡ Err (record { word = 2; expected = expected.KnownTxn })
@@ -265,8 +300,8 @@ module _ (txns : Txns) where
   text = codes "A take" ++ 10 ∷ 10 ∷ codes "B push"
 
   -- its lines have the numbers of lines of the input, the first of which is 5
-  numbered : logs_of txns 4 2 5 text ≡ Ok (record { number = 5; logged = Step (record { choice = Take A; told = None; value = None; sent = None; rows = None }) }
-      ∷ record { number = 7; logged = Step (record { choice = Push B; told = None; value = None; sent = None; rows = None }) } ∷ [])
+  numbered : logs_of txns 4 2 5 text ≡ Ok (record { number = 5; logged = Step (record { log = actor.A; choice = Take A; told = None; value = None; sent = None; rows = None }) }
+      ∷ record { number = 7; logged = Step (record { log = actor.B; choice = Push B; told = None; value = None; sent = None; rows = None }) } ∷ [])
   unfolding open_all
   numbered = refl
 
@@ -280,7 +315,7 @@ module _ (txns : Txns) where
   with_gap = codes "A take" ++ 10 ∷ codes "A ..."
 
   -- where a gap counts for four steps, they count for five
-  gap_counts : logs_of txns 4 5 1 with_gap ≡ Ok (record { number = 1; logged = Step (record { choice = Take A; told = None; value = None; sent = None; rows = None }) }
+  gap_counts : logs_of txns 4 5 1 with_gap ≡ Ok (record { number = 1; logged = Step (record { log = actor.A; choice = Take A; told = None; value = None; sent = None; rows = None }) }
       ∷ record { number = 2; logged = Gap actor.A } ∷ [])
   unfolding open_all
   gap_counts = refl
@@ -304,15 +339,15 @@ shows = record { entry = record { choice = Run A 0; outcome = outcome.Did; sent 
 
 -- a line of it that tells a value, or none
 abbrev tells : Option ℕ → LogLine
-tells v = record { choice = Run A 0; told = Some pattern.Did; value = v; sent = None; rows = None }
+tells v = record { log = actor.A; choice = Run A 0; told = Some pattern.Did; value = v; sent = None; rows = None }
 
 -- the logged value is the one that came
 value_told : Agrees (tells (Some 7)) shows
-value_told = (refl, refl, tt, tt)
+value_told = (refl, refl, tt, tt, tt)
 
 -- any value may come where none was logged
 value_left_out : Agrees (tells None) shows
-value_left_out = (refl, tt, tt, tt)
+value_left_out = (refl, tt, tt, tt, tt)
 
 -- another value does not agree
 value_differs : Agrees (tells (Some 8)) shows → ⊥
@@ -333,15 +368,15 @@ pushes = record {
 
 -- a line of it that tells rows, or none
 abbrev tells_rows : Option (List Row) → LogLine
-tells_rows rows = record { choice = Push A; told = Some (pattern.Pushed (Some 0)); value = None; sent = Some message.Page; rows = rows }
+tells_rows rows = record { log = actor.A; choice = Push A; told = Some (pattern.Pushed (Some 0)); value = None; sent = Some message.Page; rows = rows }
 
 -- the logged rows are those that came
 rows_told : Agrees (tells_rows (Some (row 10 1 ∷ row 20 2 ∷ []))) pushes
-rows_told = (refl, tt, refl, refl)
+rows_told = (refl, tt, refl, refl, tt)
 
 -- any rows may come where none were logged
 rows_left_out : Agrees (tells_rows None) pushes
-rows_left_out = (refl, tt, refl, tt)
+rows_left_out = (refl, tt, refl, tt, tt)
 
 -- no rows are other rows
 no_rows_differ : Agrees (tells_rows (Some [])) pushes → ⊥
@@ -350,6 +385,25 @@ no_rows_differ h = let e = h.3 in cc
 -- so are the first ones alone
 fewer_rows_differ : Agrees (tells_rows (Some (row 10 1 ∷ []))) pushes → ⊥
 fewer_rows_differ h = let e = h.3 in cc
+
+-- a begin took place at B
+abbrev begins_at_b : Observation
+begins_at_b = record { entry = record { choice = Begin 0; outcome = outcome.Began B; sent = None }; value = None; rows = None; node = Some B }
+
+-- a line of it in the log of an actor
+abbrev begin_in : Actor → LogLine
+begin_in x = record { log = x; choice = Begin 0; told = Some (pattern.Began None); value = None; sent = None; rows = None }
+
+-- it may stand in the client's log, or in that of B
+stands_at_client : Agrees (begin_in actor.C) begins_at_b
+stands_at_client = (refl, tt, tt, tt, inl refl)
+
+stands_at_b : Agrees (begin_in actor.B) begins_at_b
+stands_at_b = (refl, tt, tt, tt, inr refl)
+
+-- and not in that of A
+stands_not_at_a : Agrees (begin_in actor.A) begins_at_b → ⊥
+stands_not_at_a h = elim h.4 [ inl e ↦ cc | inr e ↦ cc ]
 
 -- all of a step, in words
 all_told : step_words (record { entry = record { choice = Take A; outcome = outcome.GotPull 1; sent = Some message.Page }; value = None; rows = Some []; node = None })
@@ -372,3 +426,8 @@ all_told_value = refl
 all_told_rows : step_words pushes ≡ words_of (codes "A push -> pushed 0 ! page rows 10=1 20=2")
 unfolding digits
 all_told_rows = refl
+
+-- one of the client in the log of a node
+all_told_shared : words_in actor.B begins_at_b ≡ words_of (codes "B begin 0 -> began B")
+unfolding digits
+all_told_shared = refl

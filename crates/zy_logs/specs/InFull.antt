@@ -2,6 +2,9 @@
 use Rattle.std.specs.Prelude.{◌≡◌, ℕ, ◌≤◌, ◌<◌, ◌++◌, List, [], ◌∷◌, codes, length, map, Option, Some, None, IfSome, true}
 use Rattle.std.specs.Fmt.{decimal}
 use Rattle.zy_isa.specs.Limits.{max_cap, max_key, max_txns, max_value}
+use Rattle.zy_isa.specs.Choices.{actor_of}
+use Rattle.zy_isa.specs.declared.node.Actor.{Actor}
+use Rattle.zy_isa.specs.declared.node.Actor.TheVariants as actor
 use Rattle.zy_isa.specs.declared.row.Row.{Row}
 use Rattle.zy_isa.specs.declared.instr.Reg.{Reg}
 use Rattle.zy_model.specs.declared.kind.Kind.{Kind}
@@ -21,11 +24,16 @@ use Rattle.zy_text.specs.Canon.{node_text, choice_words}
 use Rattle.zy_patterns.specs.Patterns.{exactly}
 use Rattle.zy_logs.specs.declared.log_line.LogLine.{LogLine}
 use Rattle.zy_logs.specs.Possible.{can_have_rows}
-use Rattle.zy_logs.specs.Words.{Word}
+use Rattle.zy_logs.specs.Words.{Word, after}
 
--- the choice, all of the outcome, the value and the rows, if there are any, and the message that was sent, if one was
+-- the line in the log of an actor that tells the choice, all of the outcome, the value and the rows, if there are any, and the message that
+-- was sent, if one was
+abbrev pub in_log : Actor → Observation → LogLine
+in_log x o = record { log = x; choice = o.entry.choice; told = Some (exactly o.entry.outcome); value = o.value; sent = o.entry.sent; rows = o.rows }
+
+-- the same in the log of the actor who made the step
 abbrev pub in_full : Observation → LogLine
-in_full o = record { choice = o.entry.choice; told = Some (exactly o.entry.outcome); value = o.value; sent = o.entry.sent; rows = o.rows }
+in_full o = in_log (actor_of o.entry.choice) o
 
 -- a line may give this number for a page or a key
 abbrev pub IsPage : ℕ → Type 0
@@ -153,3 +161,13 @@ shown_words o = value_words o.value ++ (sent_words o.entry.sent ++ rows_words o.
 -- CHOICE -> OUTCOME [ V ] [ ! KIND ] [ ROWS ]
 abbrev pub step_words : Observation → List Word
 step_words o = choice_words o.entry.choice ++ (codes "->" ∷ (outcome_words o.entry.outcome ++ shown_words o))
+
+-- LOG
+abbrev pub log_word : Actor → Word
+log_word actor.C = codes "C"
+log_word actor.A = codes "A"
+log_word actor.B = codes "B"
+
+-- the same in the log of an actor
+abbrev pub words_in : Actor → Observation → List Word
+words_in x o = log_word x ∷ after (step_words o)

@@ -1,5 +1,5 @@
--- The line of a log that words spell: CHOICE, then [ -> OUTCOME ], then [ V ] where that is `did`, then
--- [ ! KIND ], then [ ROWS ]; or ACTOR `...`.
+-- The line of a log that words spell: LOG and CHOICE, then [ -> OUTCOME ], then [ V ] where that is `did`, then
+-- [ ! KIND ], then [ ROWS ]; or LOG `...`.
 use Rattle.std.specs.Prelude.{ℕ, ◌-◌, ◌&&◌, ◌||◌, Bool, true, false, List, codes, length, Option, Some, None, Result, Ok, Err, if◌then◌else◌}
 use Rattle.zy_isa.specs.declared.node.Node.{Node}
 use Rattle.zy_isa.specs.declared.node.Node.TheVariants.{A, B}
@@ -24,36 +24,43 @@ use Rattle.zy_logs.specs.declared.txns.Txns.{Txns}
 use Rattle.zy_logs.specs.declared.reading.cursor.Misfit.{Misfit}
 use Rattle.zy_logs.specs.Words.{Word, Read, first, after, are_none, begin_with, message_or_end, stop, refused, gives, made}
 use Rattle.zy_logs.specs.Parts.{or_none, page, place, value, txn, txn_or_none, node_at, reason}
-use Rattle.zy_logs.specs.Possible.{can_give, can_have_rows}
+use Rattle.zy_logs.specs.Possible.{can_give, can_have_rows, can_stand}
 use Rattle.zy_logs.specs.Rows.{rows_from}
 use Rattle.zy_patterns.specs.Vocabulary as word
 use Rattle.zy_patterns.specs.Paged.{with_page}
 
--- ---- CHOICE
+-- ---- LOG and CHOICE
 
--- a choice of the client, after `C`
-abbrev pub client_choice : Txns → List Word → Read Choice
-client_choice txns ws =
+-- LOG: C, A or B
+abbrev pub whose : List Word → Read Actor
+whose ws =
+    if begin_with (codes "C") ws then Ok (actor.C, after ws) else
+    if begin_with (codes "A") ws then Ok (actor.A, after ws) else
+    if begin_with (codes "B") ws then Ok (actor.B, after ws) else
+    refused expected.Actor ws
+
+-- a choice of the client, after the name of the actor whose log it is in; after this name other words are `e`
+abbrev pub client_choice : Txns → ExpectedInLog → List Word → Read Choice
+client_choice txns e ws =
     if begin_with (codes "start") ws then Ok (choice.Start, after ws) else
     if begin_with (codes "begin") ws then made choice.Begin (txn txns (after ws)) else
     if begin_with (codes "kill") ws then made choice.Kill (txn txns (after ws)) else
-    refused expected.ClientAction ws
+    refused e ws
 
--- a choice of a node, after its name
+-- a choice in the log of a node, after its name: one of its own, or of the client
 abbrev pub node_choice : Txns → Node → List Word → Read Choice
 node_choice txns n ws =
     if begin_with (codes "run") ws then made (choice.Run n) (txn txns (after ws)) else
     if begin_with (codes "take") ws then Ok (choice.Take n, after ws) else
     if begin_with (codes "finish") ws then Ok (choice.Finish n, after ws) else
     if begin_with (codes "push") ws then Ok (choice.Push n, after ws) else
-    refused expected.NodeAction ws
+    client_choice txns expected.NodeAction ws
 
-abbrev pub choice_of : Txns → List Word → Read Choice
-choice_of txns ws =
-    if begin_with (codes "C") ws then client_choice txns (after ws) else
-    if begin_with (codes "A") ws then node_choice txns A (after ws) else
-    if begin_with (codes "B") ws then node_choice txns B (after ws) else
-    refused expected.Actor ws
+-- a choice in the log of an actor, after its name
+abbrev pub choice_of : Txns → Actor → List Word → Read Choice
+choice_of txns actor.C ws = client_choice txns expected.ClientAction ws
+choice_of txns actor.A ws = node_choice txns A ws
+choice_of txns actor.B ws = node_choice txns B ws
 
 -- ---- OUTCOME: its node, its reason and its numbers may be left out, of a split the last ones
 
@@ -90,15 +97,15 @@ outcome_of txns ws =
 
 -- ---- the line
 
--- OUTCOME, where a step of the choice can give it
-abbrev pub possible : Txns → Choice → List Word → Read OutcomePattern
-possible txns c ws = do
+-- OUTCOME, where a step of the choice can give it, and a line of the log may tell it
+abbrev pub possible : Txns → Actor → Choice → List Word → Read OutcomePattern
+possible txns x c ws = do
   t ← outcome_of txns ws
-  if can_give c t.0 then Ok t else refused (expected.OutcomeOf c) ws
+  if can_give c t.0 && can_stand x t.0 then Ok t else refused (expected.OutcomeOf c) ws
 
 -- `?` or OUTCOME, after the choice and `->`
-abbrev pub logged : Txns → Choice → List Word → Read (Option OutcomePattern)
-logged txns c ws = if begin_with (codes "?") ws then Ok (None, after ws) else made Some (possible txns c ws)
+abbrev pub logged : Txns → Actor → Choice → List Word → Read (Option OutcomePattern)
+logged txns x c ws = if begin_with (codes "?") ws then Ok (None, after ws) else made Some (possible txns x c ws)
 
 -- rows come, which the choice may have
 abbrev pub rows_come : Choice → List Word → Bool
@@ -109,9 +116,9 @@ abbrev pub end_told : Choice → List Word → Bool
 end_told c ws = message_or_end ws || rows_come c ws
 
 -- [ -> OUTCOME ], after the choice
-abbrev pub told_of : Txns → Choice → List Word → Read (Option OutcomePattern)
-told_of txns c ws =
-    if begin_with (codes "->") ws then logged txns c (after ws) else
+abbrev pub told_of : Txns → Actor → Choice → List Word → Read (Option OutcomePattern)
+told_of txns x c ws =
+    if begin_with (codes "->") ws then logged txns x c (after ws) else
     if end_told c ws then Ok (None, ws) else
     refused (expected.AfterChoice c) ws
 
@@ -149,26 +156,19 @@ rows_of c ws =
 -- the parts, and nothing after them
 abbrev pub whole : Txns → List Word → Result LogLine Misfit
 whole txns ws = do
-  c ← choice_of txns ws
-  t ← told_of txns c.0 c.1
+  x ← whose ws
+  c ← choice_of txns x.0 x.1
+  t ← told_of txns x.0 c.0 c.1
   v ← value_behind t.0 t.1
   k ← sent_of c.0 v.1
   rows ← rows_of c.0 k.1
-  Ok (record { choice = c.0; told = t.0; value = v.0; sent = k.0; rows = rows })
-
--- C, A or B
-abbrev pub whose : List Word → Read Actor
-whose ws =
-    if begin_with (codes "C") ws then Ok (actor.C, after ws) else
-    if begin_with (codes "A") ws then Ok (actor.A, after ws) else
-    if begin_with (codes "B") ws then Ok (actor.B, after ws) else
-    refused expected.Actor ws
+  Ok (record { log = x.0; choice = c.0; told = t.0; value = v.0; sent = k.0; rows = rows })
 
 -- nothing after `...`
 abbrev pub gap_end : Actor → List Word → Result Logged Misfit
 gap_end x ws = if are_none ws then Ok (Gap x) else Err (stop expected.EndOfGap ws)
 
--- ACTOR `...`
+-- LOG `...`
 abbrev pub gap : List Word → Result Logged Misfit
 gap ws = do
   x ← whose ws

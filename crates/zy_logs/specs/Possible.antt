@@ -1,5 +1,8 @@
 -- Of which choices an outcome can come, whatever the state: those for which the step table has a line with it.
 use Rattle.std.specs.Prelude.{◌||◌, Bool, true, false, Some, None}
+use Rattle.zy_isa.specs.declared.node.Actor.{Actor}
+use Rattle.zy_isa.specs.declared.node.Actor.TheVariants as actor
+use Rattle.zy_isa.specs.declared.node.Node.TheVariants.{A, B}
 use Rattle.zy_isa.specs.declared.choice.Choice.{Choice}
 use Rattle.zy_isa.specs.declared.choice.Choice.TheVariants.{Start, Begin, Kill, Run, Take, Finish, Push}
 use Rattle.zy_patterns.specs.declared.patterns.ReasonPattern.{ReasonPattern}
@@ -38,6 +41,12 @@ is_push c = false
 -- rows may stand behind a choice: it takes or pushes
 abbrev pub can_have_rows : Choice → Bool
 can_have_rows c = is_take c || is_push c
+
+-- an outcome may stand in the log of an actor: in the log of a node, `began` names that node, or none
+abbrev pub can_stand : Actor → OutcomePattern → Bool
+can_stand actor.A (pattern.Began (Some B)) = false
+can_stand actor.B (pattern.Began (Some A)) = false
+can_stand x told = true
 
 -- a choice can abort a transaction for this reason
 abbrev pub can_abort : Choice → ReasonPattern → Bool

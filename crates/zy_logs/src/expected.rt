@@ -19,7 +19,8 @@ pub enum FaultKind {
     Order,
     /// The scenario does not have the transaction.
     Label,
-    /// No step of the choice gives the outcome, whatever the state.
+    /// No step of the choice gives the outcome, whatever the state, or it began at another node than the one in whose log the line
+    /// stands.
     Outcome,
     /// There are too many choices, or too many rows of a page.
     Count,
@@ -38,7 +39,7 @@ pub enum ExpectedInLog {
     /// What may follow this choice.
     AfterChoice(Choice),
     Outcome,
-    /// An outcome that a step of this choice can have.
+    /// An outcome that a step of this choice can have, and a line of the log can tell.
     OutcomeOf(Choice),
     /// The kind of a message that was taken.
     Got,
@@ -101,7 +102,7 @@ impl ExpectedInLog {
 fn outcomes_of(choice: Choice) -> &'static str {
     match choice {
         Choice::Start => "start gives started or badmode",
-        Choice::Begin(_) => "begin gives began or idle",
+        Choice::Begin(_) => "begin gives began (in the log of a node at that node) or idle",
         Choice::Kill(_) => "kill gives aborted killed or idle",
         Choice::Run(_, _) => concat!(
             "run gives idle, elsewhere, notyet, did, split, committed, waits, pulls, awaits ",
@@ -140,7 +141,8 @@ impl fmt::Display for ExpectedInLog {
         let words = match self {
             ExpectedInLog::Actor => "a line of a log begins with C, A or B",
             ExpectedInLog::ClientAction => "after C comes start, begin T, kill T or ...",
-            ExpectedInLog::NodeAction => "after A or B comes run T, take, finish, push or ...",
+            ExpectedInLog::NodeAction =>
+                "after A or B comes run T, take, finish, push, start, begin T, kill T or ...",
             ExpectedInLog::Txn => "the number or the name of a transaction comes here",
             ExpectedInLog::KnownTxn => "the scenario does not have this transaction",
             ExpectedInLog::AfterChoice(choice) => {

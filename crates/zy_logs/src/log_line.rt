@@ -1,11 +1,11 @@
 //! A line of a log.
 ghost use Rattle.std.specs.Prelude.{◌≡◌, IfSome, Some, true};
 ghost use Rattle.std.specs.Bool.{Decides};
-ghost use Rattle.zy_logs.specs.Agrees.{Agrees};
+ghost use Rattle.zy_logs.specs.Agrees.{Agrees, IsLogOf};
 ghost use Rattle.zy_logs.specs.Logs.{steps_of};
 ghost use Rattle.zy_patterns.specs.Patterns.{matches as matches_outcome};
 
-use zy_isa::{Actor, Choice};
+use zy_isa::{Actor, Choice, Node};
 use zy_model::Kind;
 use zy_page::PageRows;
 use zy_patterns::OutcomePattern;
@@ -16,6 +16,8 @@ use zy_table::{Observation, Outcome};
 /// no message.
 #[derive(Clone, Copy)]
 pub struct LogLine {
+    /// Whose log it stands in: the actor of the choice, or the node where a choice of the client took place.
+    pub log: Actor,
     /// The choice.
     pub choice: Choice,
     /// What was logged of the outcome of its step, if anything was.
@@ -85,6 +87,17 @@ fn are_rows(logged: &Option<PageRows>, came: &Option<PageRows>) -> bool
     }
 }
 
+/// Whether a line of the log may tell a step that took place at this node, if it did at one: the log is the client's or that of
+/// the node.
+fn stands_in(log: Actor, node: Option<Node>) -> bool
+    ensures { Decides result (IfSome node (IsLogOf log)) }
+{
+    match node {
+        Some(node) => log == Actor::C || log == Actor::of(node),
+        None => true,
+    }
+}
+
 impl Logged {
     /// How many steps it counts for, where a gap counts for `gap`.
     pub fn steps(&self, gap: usize) -> usize
@@ -98,7 +111,8 @@ impl Logged {
 }
 
 impl LogLine {
-    /// Whether the line agrees with what a step shows: each of outcome, value, message and rows that it tells is the step's.
+    /// Whether the line agrees with what a step shows: each of outcome, value, message and rows that it tells is the step's, and
+    /// it stands in the log of the client or of the node where the step took place, if it did at one.
     pub fn agrees(&self, observation: &Observation) -> bool
         ensures { Decides result (Agrees self.now observation.now) }
     {
@@ -106,5 +120,6 @@ impl LogLine {
             && is_value(self.value, observation.value)
             && is_sent(self.sent, observation.entry.sent)
             && are_rows(&self.rows, &observation.rows)
+            && stands_in(self.log, observation.node)
     }
 }

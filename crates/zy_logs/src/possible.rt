@@ -2,7 +2,7 @@
 ghost use Rattle.std.specs.Prelude.{◌≡◌};
 ghost use Rattle.zy_logs.specs.Possible as spec;
 
-use zy_isa::Choice;
+use zy_isa::{Actor, Choice, Node};
 use zy_patterns::{OutcomePattern, ReasonPattern};
 
 /// Whether a migration is started.
@@ -59,6 +59,17 @@ pub(crate) fn can_have_rows(choice: Choice) -> bool
     ensures { result ≡ spec.can_have_rows choice }
 {
     is_take(choice) || is_push(choice)
+}
+
+/// Whether an outcome may stand in the log of an actor: in the log of a node, `began` names that node, or none.
+pub(crate) fn can_stand(log: Actor, told: OutcomePattern) -> bool
+    ensures { result ≡ spec.can_stand log told }
+{
+    match (log, told) {
+        (Actor::A, OutcomePattern::Began(Some(Node::B))) => false,
+        (Actor::B, OutcomePattern::Began(Some(Node::A))) => false,
+        _ => true,
+    }
 }
 
 /// Whether a choice can abort a transaction for this reason.

@@ -14,26 +14,32 @@ mod rows;
 
 use crate::expected::{ExpectedInLog, Misread};
 use crate::log_line::{LogLine, Logged};
-use crate::possible::{can_give, can_have_rows};
+use crate::possible::{can_give, can_have_rows, can_stand};
 use crate::reading::choices::{choice, whose};
 use crate::reading::cursor::{LogCursor, Misfit, Parsed};
 use crate::reading::outcomes::outcome;
 use crate::reading::parts::value_or_none;
 use crate::reading::rows::rows;
 use crate::txns::Txns;
-use zy_isa::Choice;
+use zy_isa::{Actor, Choice};
 use zy_model::Kind;
 use zy_page::PageRows;
 use zy_patterns::OutcomePattern;
 use zy_patterns::words::kind;
 
-/// The outcome that begins with the word at hand. That word is rejected where no step of the choice gives the outcome.
-fn possible<'a>(txns: Txns<'a>, choice: Choice, at: LogCursor<'a>) -> Parsed<'a, OutcomePattern>
+/// The outcome that begins with the word at hand. That word is rejected where no step of the choice gives the outcome, and where no
+/// line of the log tells it.
+fn possible<'a>(
+    txns: Txns<'a>,
+    log: Actor,
+    choice: Choice,
+    at: LogCursor<'a>,
+) -> Parsed<'a, OutcomePattern>
     requires { txns.count ≤ max_txns }
-    ensures { read result ≡ spec.possible txns.entry choice (left at.entry) }
+    ensures { read result ≡ spec.possible txns.entry log choice (left at.entry) }
 {
     let (told, next) = outcome(txns, at)?;
-    if can_give(choice, told) {
+    if can_give(choice, told) && can_stand(log, told) {
         Ok((told, next))
     } else {
         Err(at.refuses(ExpectedInLog::OutcomeOf(choice)))
@@ -43,16 +49,17 @@ fn possible<'a>(txns: Txns<'a>, choice: Choice, at: LogCursor<'a>) -> Parsed<'a,
 /// What was logged of the outcome of a choice, after `->`: nothing, or an outcome.
 fn logged<'a>(
     txns: Txns<'a>,
+    log: Actor,
     choice: Choice,
     at: LogCursor<'a>,
 ) -> Parsed<'a, Option<OutcomePattern>>
     requires { txns.count ≤ max_txns }
-    ensures { read result ≡ spec.logged txns.entry choice (left at.entry) }
+    ensures { read result ≡ spec.logged txns.entry log choice (left at.entry) }
 {
     if at.is_at(b"?") {
         return Ok((None, at.next()));
     }
-    let (told, at) = possible(txns, choice, at)?;
+    let (told, at) = possible(txns, log, choice, at)?;
     Ok((Some(told), at))
 }
 
@@ -71,12 +78,17 @@ fn ends_told(choice: Choice, at: LogCursor<'_>) -> bool
 }
 
 /// What was logged of the outcome, after the choice.
-fn told<'a>(txns: Txns<'a>, choice: Choice, at: LogCursor<'a>) -> Parsed<'a, Option<OutcomePattern>>
+fn told<'a>(
+    txns: Txns<'a>,
+    log: Actor,
+    choice: Choice,
+    at: LogCursor<'a>,
+) -> Parsed<'a, Option<OutcomePattern>>
     requires { txns.count ≤ max_txns }
-    ensures { read result ≡ spec.told_of txns.entry choice (left at.entry) }
+    ensures { read result ≡ spec.told_of txns.entry log choice (left at.entry) }
 {
     if at.is_at(b"->") {
-        logged(txns, choice, at.next())
+        logged(txns, log, choice, at.next())
     } else if ends_told(choice, at) {
         Ok((None, at))
     } else {
@@ -142,12 +154,14 @@ fn whole(txns: Txns<'_>, at: LogCursor<'_>) -> Result<LogLine, Misfit>
     requires { txns.count ≤ max_txns }
     ensures { result ≡ spec.whole txns.entry (left at.entry) }
 {
-    let (choice, at) = choice(txns, at)?;
-    let (told, at) = told(txns, choice, at)?;
+    let (log, at) = whose(at)?;
+    let (choice, at) = choice(txns, log, at)?;
+    let (told, at) = told(txns, log, choice, at)?;
     let (value, at) = value_behind(told, at)?;
     let (sent, at) = sent(choice, at)?;
     let rows = rows_or_end(choice, at)?;
     Ok(LogLine {
+        log,
         choice,
         told,
         value,

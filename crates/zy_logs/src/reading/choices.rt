@@ -1,4 +1,4 @@
-//! Reads the choice of a line.
+//! Reads whose log a line stands in, and its choice.
 ghost use Rattle.std.specs.Prelude.{◌≡◌, ◌≤◌};
 ghost use Rattle.zy_isa.specs.Limits.{max_txns};
 ghost use Rattle.zy_logs.specs.Cursors.{left, read};
@@ -10,10 +10,14 @@ use crate::reading::parts::txn;
 use crate::txns::Txns;
 use zy_isa::{Actor, Choice, Node};
 
-/// A choice of the client, after `C`.
-fn client_choice<'a>(txns: Txns<'a>, at: LogCursor<'a>) -> Parsed<'a, Choice>
+/// A choice of the client, after the name of the actor whose log it is in. After this name other words are `expected`.
+fn client_choice<'a>(
+    txns: Txns<'a>,
+    expected: ExpectedInLog,
+    at: LogCursor<'a>,
+) -> Parsed<'a, Choice>
     requires { txns.count ≤ max_txns }
-    ensures { read result ≡ spec.client_choice txns.entry (left at.entry) }
+    ensures { read result ≡ spec.client_choice txns.entry expected (left at.entry) }
 {
     if at.is_at(b"start") {
         Ok((Choice::Start, at.next()))
@@ -24,11 +28,11 @@ fn client_choice<'a>(txns: Txns<'a>, at: LogCursor<'a>) -> Parsed<'a, Choice>
         let (txn, at) = txn(txns, at.next())?;
         Ok((Choice::Kill(txn), at))
     } else {
-        Err(at.refuses(ExpectedInLog::ClientAction))
+        Err(at.refuses(expected))
     }
 }
 
-/// A choice of a node, after its name.
+/// A choice in the log of a node, after its name: one of its own, or of the client.
 fn node_choice<'a>(txns: Txns<'a>, node: Node, at: LogCursor<'a>) -> Parsed<'a, Choice>
     requires { txns.count ≤ max_txns }
     ensures { read result ≡ spec.node_choice txns.entry node (left at.entry) }
@@ -43,23 +47,19 @@ fn node_choice<'a>(txns: Txns<'a>, node: Node, at: LogCursor<'a>) -> Parsed<'a, 
     } else if at.is_at(b"push") {
         Ok((Choice::Push(node), at.next()))
     } else {
-        Err(at.refuses(ExpectedInLog::NodeAction))
+        client_choice(txns, ExpectedInLog::NodeAction, at)
     }
 }
 
-/// The choice that begins with the word at hand.
-pub fn choice<'a>(txns: Txns<'a>, at: LogCursor<'a>) -> Parsed<'a, Choice>
+/// A choice in the log of an actor, after its name.
+pub fn choice<'a>(txns: Txns<'a>, log: Actor, at: LogCursor<'a>) -> Parsed<'a, Choice>
     requires { txns.count ≤ max_txns }
-    ensures { read result ≡ spec.choice_of txns.entry (left at.entry) }
+    ensures { read result ≡ spec.choice_of txns.entry log (left at.entry) }
 {
-    if at.is_at(b"C") {
-        client_choice(txns, at.next())
-    } else if at.is_at(b"A") {
-        node_choice(txns, Node::A, at.next())
-    } else if at.is_at(b"B") {
-        node_choice(txns, Node::B, at.next())
-    } else {
-        Err(at.refuses(ExpectedInLog::Actor))
+    match log {
+        Actor::C => client_choice(txns, ExpectedInLog::ClientAction, at),
+        Actor::A => node_choice(txns, Node::A, at),
+        Actor::B => node_choice(txns, Node::B, at),
     }
 }
 
