@@ -22,6 +22,9 @@ use Rattle.zy_isa.specs.declared.node.Actor.TheVariants as actor
 use Rattle.zy_isa.specs.Results.{◌>>=◌}
 use Rattle.zy_isa.proofs.ResultLemmas.{both, neither}
 use Rattle.zy_model.specs.declared.kind.Kind.{Kind}
+use Rattle.zy_page.specs.declared.page_rows.PageRows.{PageRows}
+use Rattle.zy_page.specs.RowLists.{of_rows, rows_in}
+use Rattle.zy_page.proofs.Padded.{rows_first}
 use Rattle.zy_model.specs.declared.kind.Kind.TheVariants as kind
 use Rattle.zy_table.specs.declared.observation.Observation.{Observation}
 use Rattle.zy_table.specs.declared.outcome.Why.{Why}
@@ -44,7 +47,7 @@ use Rattle.zy_logs.specs.declared.log_line.LogLine.{LogLine}
 use Rattle.zy_logs.specs.declared.log_line.Logged.TheVariants.{Step}
 use Rattle.zy_logs.specs.declared.txns.Txns.{Txns}
 use Rattle.zy_logs.specs.declared.reading.cursor.Misfit.{Misfit}
-use Rattle.zy_logs.specs.InFull.{in_full, IsPage, HasPage, IsTold, IsShown, AreRows, AreShown, reason_words, outcome_words, value_words, sent_words}
+use Rattle.zy_logs.specs.InFull.{in_full, IsPage, HasPage, IsTold, IsShown, ArePageRows, AreShown, reason_words, outcome_words, value_words, sent_words}
 use Rattle.zy_logs.specs.InFull.{row_word, rows_words, shown_words, step_words, log_word, in_log, words_in}
 use Rattle.zy_logs.specs.Words.{Word, Read, after, are_none, begin_with, message_or_end, end_outcome, stop, refused, gives, made}
 use Rattle.zy_logs.specs.Txns.{named}
@@ -52,7 +55,7 @@ use Rattle.zy_logs.specs.Parts.{or_none, number_in, page, place, value, numbered
 use Rattle.zy_logs.specs.Lines as line
 use Rattle.zy_logs.specs.Lines.{split, outcome_of, whose, choice_of, possible, told_of, logged, is_did, value_behind, sent_of, some_rows, rows_of, whole, placed, line_of}
 use Rattle.zy_logs.specs.Possible.{can_give, can_have_rows, can_stand}
-use Rattle.zy_logs.specs.Rows.{row_cut, sign_of, fitting, onto, rows_from}
+use Rattle.zy_logs.specs.Rows.{row_cut, sign_of, fitting, onto, rows_from, page_rows}
 use Rattle.zy_logs.proofs.StandLemmas.{own_stands}
 use Rattle.zy_text.proofs.WordLemmas.{number_of-decimal, digits_of, decimal_some}
 
@@ -322,11 +325,11 @@ told_given txns x c o rest most h can stands =
     ∙ ap (made Some) (possible_given txns x c o rest most h can stands)
 
 -- a line of the choice may tell the rows, if there are any
-abbrev MayTell : Choice → Option (List Row) → Type 0
-MayTell c o = IfSome o (λ rows. (can_have_rows c ≡ true) × AreRows rows)
+abbrev MayTell : Choice → Option PageRows → Type 0
+MayTell c o = IfSome o (λ rows. (can_have_rows c ≡ true) × ArePageRows rows)
 
 -- the message that was sent
-sent_given : (c : Choice) (k : Option Kind) (rows : Option (List Row)) → MayTell c rows
+sent_given : (c : Choice) (k : Option Kind) (rows : Option PageRows) → MayTell c rows
     → sent_of c (sent_words k ++ rows_words rows) ≡ Ok (k, rows_words rows)
 unfolding open_all
 sent_given c None None h = refl
@@ -342,7 +345,7 @@ sent_given c (Some kind.Finish) rows h = refl
 sent_given c (Some kind.Done) rows h = refl
 
 -- no value comes before it
-no_value : (did : Bool) (k : Option Kind) (rows : Option (List Row)) → let ws = sent_words k ++ rows_words rows in
+no_value : (did : Bool) (k : Option Kind) (rows : Option PageRows) → let ws = sent_words k ++ rows_words rows in
     (if did then or_none value ws else Ok (None, ws)) ≡ Ok (None, ws)
 no_value true None None = refl
 no_value true None (Some rows) = refl
@@ -350,7 +353,7 @@ no_value true (Some k) rows = refl
 no_value false k rows = refl
 
 -- the value, which only `did` has
-value_given : (o : Outcome) (v : Option ℕ) (k : Option Kind) (rows : Option (List Row)) → IfSome v (λ n. (n ≤ max_value) × (o ≡ outcome.Did))
+value_given : (o : Outcome) (v : Option ℕ) (k : Option Kind) (rows : Option PageRows) → IfSome v (λ n. (n ≤ max_value) × (o ≡ outcome.Did))
     → value_behind (Some (exactly o)) (value_words v ++ (sent_words k ++ rows_words rows)) ≡ Ok (v, sent_words k ++ rows_words rows)
 value_given o None k rows h = no_value (is_did (Some (exactly o))) k rows
 value_given o (Some n) k rows h =
@@ -410,12 +413,19 @@ all_given low room (r ∷ rows) few rise fit =
     ∙ ap (onto r) (all_given (r.key + 1) (room - 1) rows (omega (arith, few)) rise.1 fit.2)
 
 -- the rows, and nothing after them
-rows_given : (c : Choice) (rows : Option (List Row)) → MayTell c rows → rows_of c (rows_words rows) ≡ Ok rows
+rows_given : (c : Choice) (rows : Option PageRows) → MayTell c rows → rows_of c (rows_words rows) ≡ Ok rows
 rows_given c None h = refl
-rows_given c (Some rows) h =
-    let ws = rows_words (Some rows) in
-    ap (λ b. if b then some_rows (rows_from 0 max_cap (after ws)) else if are_none ws then Ok None else Err (stop (expected.AfterMessage c) ws)) h.0
-    ∙ ap some_rows (all_given 0 max_cap rows h.1.0 h.1.1.rise h.1.1.fit)
+rows_given c (Some x) h =
+    let ws = rows_words (Some x) in
+    let rows = h.1.0 in
+    let came = h.1.1 in
+    let kept = h.1.2 in
+    let told : List Row → Result (Option PageRows) Misfit = λ rs. some_rows (page_rows (map row_word rs)) in
+    ap (λ b. if b then some_rows (page_rows (after ws)) else if are_none ws then Ok None else Err (stop (expected.AfterMessage c) ws)) h.0
+    ∙ ap (λ (y : PageRows). told (rows_in y)) came
+    ∙ ap told (rows_first rows)
+    ∙ ap (λ r. some_rows (r >>= λ rs. Ok (of_rows rs))) (all_given 0 max_cap rows kept.0 kept.1.rise kept.1.fit)
+    ∙ ap (λ y. Ok (Some y)) (sym came)
 
 -- ---- the whole line
 
@@ -439,7 +449,7 @@ whole_given : (txns : Txns) (x : Actor) (o : Observation) → txns.count ≤ 64 
 whole_given txns x o most may h can shown rows =
     let e = o.entry in
     let told = exactly e.outcome in
-    let last : Actor → Choice → Option OutcomePattern → Option ℕ → Option Kind → Result (Option (List Row)) Misfit → Result LogLine Misfit =
+    let last : Actor → Choice → Option OutcomePattern → Option ℕ → Option Kind → Result (Option PageRows) Misfit → Result LogLine Misfit =
     λ y c t v k r. r >>= λ rs. Ok (record { log = y; choice = c; told = t; value = v; sent = k; rows = rs }) in
     let fifth : Actor → Choice → Option OutcomePattern → Option ℕ → Read (Option Kind) → Result LogLine Misfit = λ y c t v r.
     r >>= λ k. last y c t v k.0 (rows_of c k.1) in

@@ -2,8 +2,6 @@
 use Rattle.std.proofs.Common.{◌≡◌, ◌⊎◌, ℕ, map, ◌+◌, ◌-◌, ◌≤◌, Bool, true, false, List, [], ◌∷◌, length, codes, refl, subst, inl, inr, arith}
 use Rattle.std.specs.Prelude.{Option, Some, None, Result, Ok, Err, nat_le, nat_lt, if◌then◌else◌}
 use Rattle.std.specs.Option.{option_and_then}
-use Rattle.std.specs.List.{All}
-use Rattle.std.proofs.lemmas.List.Elements.{All-nil, All-cons}
 use Rattle.std.proofs.lemmas.Bool.{cases_Bool, leb-true}
 use Rattle.zy_isa.specs.declared.node.Node.{Node}
 use Rattle.zy_isa.specs.declared.node.Node.TheVariants.{A, B}
@@ -32,7 +30,7 @@ use Rattle.zy_logs.specs.Txns.{below}
 use Rattle.zy_text.specs.Names.{place_among}
 use Rattle.zy_logs.specs.Parts.{txn}
 use Rattle.zy_logs.specs.Lines.{client_choice, node_choice, choice_of, told_of, value_behind, sent_of, rows_of, step, whole, whose, gap_end, gap, gap_or_step, placed, line_of}
-use Rattle.zy_logs.specs.Logs.{IsInALog, in_line, steps, steps_of, steps_in, fitting, line_at, listed, joined, lines_from, logs_of, choices_of}
+use Rattle.zy_logs.specs.Logs.{AreInLogs, in_line, steps, steps_of, steps_in, fitting, line_at, listed, joined, lines_from, logs_of, choices_of}
 
 -- ---- the number of a transaction
 
@@ -72,7 +70,7 @@ below_txn txns ws =
 
 -- a choice names a transaction below count, and is of the actor in whose log it stands, or of the client
 abbrev Fits : ℕ → Actor → Choice → Type 0
-Fits count x c = (names_below count c ≡ true) × ((x ≡ actor_of c) ⊎ (actor_of c ≡ actor.C))
+Fits count x c = (names_below count c ≡ true) × ((actor_of c ≡ x) ⊎ (actor_of c ≡ actor.C))
 
 -- so does one that is read in the log of an actor
 abbrev ChoiceFits : ℕ → Actor → Read Choice → Type 0
@@ -258,9 +256,9 @@ all_named count [] h = tt
 all_named count (line ∷ lines) h = (h.0.0, all_named count lines h.1)
 
 -- each of them stands in a log
-all_placed : (count : ℕ) (lines : List LogLine) → AllFit count lines → All IsInALog lines
-all_placed count [] h = All-nil IsInALog
-all_placed count (line ∷ lines) h = All-cons IsInALog line lines h.0.1 (all_placed count lines h.1)
+all_placed : (count : ℕ) (lines : List LogLine) → AllFit count lines → AreInLogs lines
+all_placed count [] h = tt
+all_placed count (line ∷ lines) h = (h.0.1, all_placed count lines h.1)
 
 -- the lines of a text name transactions that there are
 pub logs_named : (txns : Txns) (gap most first : ℕ) (text : List ℕ) (lines : List NumberedLine)
@@ -269,7 +267,7 @@ logs_named txns gap most first text lines e = all_named txns.count (steps lines)
 
 -- each stands in a log
 pub logs_placed : (txns : Txns) (gap most first : ℕ) (text : List ℕ) (lines : List NumberedLine)
-    → logs_of txns gap most first text ≡ Ok lines → All IsInALog (steps lines)
+    → logs_of txns gap most first text ≡ Ok lines → AreInLogs (steps lines)
 logs_placed txns gap most first text lines e = all_placed txns.count (steps lines) (all_fit txns gap most first text lines e)
 
 -- ---- how many steps they count for

@@ -8,10 +8,12 @@ use Rattle.zy_isa.specs.declared.instr.Reg.{Reg}
 use Rattle.zy_isa.specs.Scenario.{Scenario}
 use Rattle.zy_table.specs.declared.outcome.Outcome.{Outcome}
 use Rattle.zy_table.specs.declared.outcome.Outcome.TheVariants.{Did, GotPull, GotPage, Pushed}
+use Rattle.zy_table.specs.Database.{all_leaves}
 use Rattle.zy_table.specs.Observations.{register_of, value_after, rows_after, observation_at}
+use Rattle.zy_table.specs.Pages.{rows_of}
 use Rattle.zy_table.specs.Play.{step}
 use Rattle.zy_table.specs.State.{State}
-use Rattle.zy_logs.specs.InFull.{AreRows, AreShown, HoldRows, HoldValues, IsShown}
+use Rattle.zy_logs.specs.InFull.{ArePageRows, AreShown, HoldRows, HoldValues, IsShown}
 use Rattle.zy_logs.specs.Possible.{can_give, can_have_rows, is_take, is_push}
 use Rattle.zy_patterns.specs.Patterns.{exactly}
 use Rattle.zy_logs.proofs.PossibleSteps.{step_exactly}
@@ -29,10 +31,10 @@ step_shown sc c s h = shown c (step sc c s).after (step sc c s).outcome (registe
 
 -- a choice that can give the outcome of a step which moves a page may have rows
 moves : (c : Choice) (o : Outcome) (s : State) → can_give c (exactly o) ≡ true → HoldRows s
-    → IfSome (rows_after s o) (λ rows. (can_have_rows c ≡ true) × AreRows rows)
-moves c (GotPull p) s can h = (or_left (is_take c) (is_push c) can, h p)
-moves c (GotPage p) s can h = (or_left (is_take c) (is_push c) can, h p)
-moves c (Pushed p) s can h = (or_right (is_take c) (is_push c) can, h p)
+    → IfSome (rows_after s o) (λ rows. (can_have_rows c ≡ true) × ArePageRows rows)
+moves c (GotPull p) s can h = (or_left (is_take c) (is_push c) can, (rows_of (all_leaves s) p, refl, h p))
+moves c (GotPage p) s can h = (or_left (is_take c) (is_push c) can, (rows_of (all_leaves s) p, refl, h p))
+moves c (Pushed p) s can h = (or_right (is_take c) (is_push c) can, (rows_of (all_leaves s) p, refl, h p))
 moves c o s can h = tt
 
 -- so it is where a step shows rows

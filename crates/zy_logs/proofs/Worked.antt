@@ -1,13 +1,14 @@
 -- Worked lines: what some words spell, and what agrees with it, computed.
-use Rattle.std.proofs.Common.{◌≡◌, true, ℕ, ◌++◌, List, [], ◌∷◌, Option, None, Some, Ok, Err, codes, refl, inl, inr, arith}
+use Rattle.std.proofs.Common.{◌≡◌, true, ℕ, ◌++◌, List, [], ◌∷◌, Option, None, Some, Ok, Err, codes, refl, ap, inl, inr, arith}
 use Rattle.std.specs.Fmt.{digits}
 use Rattle.zy_isa.specs.declared.node.Node.TheVariants.{A, B}
 use Rattle.zy_isa.specs.declared.node.Actor.{Actor}
 use Rattle.zy_isa.specs.declared.node.Actor.TheVariants as actor
 use Rattle.zy_isa.specs.declared.choice.Choice.TheVariants.{Take, Push, Finish, Run, Start, Begin, Kill}
-use Rattle.zy_isa.specs.declared.row.Row.{Row}
 use Rattle.zy_isa.specs.Rows.{row}
 use Rattle.zy_model.specs.declared.kind.Kind.TheVariants as message
+use Rattle.zy_page.specs.declared.page_rows.PageRows.{PageRows}
+use Rattle.zy_page.specs.RowLists.{of_rows}
 use Rattle.zy_table.specs.declared.observation.Observation.{Observation}
 use Rattle.zy_table.specs.declared.outcome.Outcome.TheVariants as outcome
 use Rattle.zy_text.specs.Words.{words_of}
@@ -132,37 +133,37 @@ module _ (txns : Txns) where
         told = Some (pattern.Pushed (Some 0));
         value = None;
         sent = Some message.Page;
-        rows = Some (row 10 1 ∷ row 20 2 ∷ []);
+        rows = Some (of_rows (row 10 1 ∷ row 20 2 ∷ []));
       }))
   unfolding open_all
   push_rows = refl
 
   -- behind the outcome
   take_rows : line_of txns (words_of (codes "B take -> got page 0 rows 10=1"))
-      ≡ Ok (Step (record { log = actor.B; choice = Take B; told = Some (pattern.GotPage (Some 0)); value = None; sent = None; rows = Some (row 10 1 ∷ []) }))
+      ≡ Ok (Step (record { log = actor.B; choice = Take B; told = Some (pattern.GotPage (Some 0)); value = None; sent = None; rows = Some (of_rows (row 10 1 ∷ [])) }))
   unfolding open_all
   take_rows = refl
 
   -- a page without rows
   no_rows : line_of txns (words_of (codes "A take -> got pull 0 ! page rows"))
-      ≡ Ok (Step (record { log = actor.A; choice = Take A; told = Some (pattern.GotPull (Some 0)); value = None; sent = Some message.Page; rows = Some [] }))
+      ≡ Ok (Step (record { log = actor.A; choice = Take A; told = Some (pattern.GotPull (Some 0)); value = None; sent = Some message.Page; rows = Some (of_rows []) }))
   unfolding open_all
   no_rows = refl
 
   -- the page is left out before rows
   rows_of_page : line_of txns (words_of (codes "A push -> pushed rows 10=1"))
-      ≡ Ok (Step (record { log = actor.A; choice = Push A; told = Some (pattern.Pushed None); value = None; sent = None; rows = Some (row 10 1 ∷ []) }))
+      ≡ Ok (Step (record { log = actor.A; choice = Push A; told = Some (pattern.Pushed None); value = None; sent = None; rows = Some (of_rows (row 10 1 ∷ [])) }))
   unfolding open_all
   rows_of_page = refl
 
   -- so is the outcome
   rows_of_choice : line_of txns (words_of (codes "A push rows 65535=4294967295"))
-      ≡ Ok (Step (record { log = actor.A; choice = Push A; told = None; value = None; sent = None; rows = Some (row 65535 4294967295 ∷ []) }))
+      ≡ Ok (Step (record { log = actor.A; choice = Push A; told = None; value = None; sent = None; rows = Some (of_rows (row 65535 4294967295 ∷ [])) }))
   unfolding open_all
   rows_of_choice = refl
 
   rows_of_unknown : line_of txns (words_of (codes "A push -> ? rows"))
-      ≡ Ok (Step (record { log = actor.A; choice = Push A; told = None; value = None; sent = None; rows = Some [] }))
+      ≡ Ok (Step (record { log = actor.A; choice = Push A; told = None; value = None; sent = None; rows = Some (of_rows []) }))
   unfolding open_all
   rows_of_unknown = refl
 
@@ -343,11 +344,11 @@ tells v = record { log = actor.A; choice = Run A 0; told = Some pattern.Did; val
 
 -- the logged value is the one that came
 value_told : Agrees (tells (Some 7)) shows
-value_told = (refl, refl, tt, tt, tt)
+value_told = (refl, refl, tt, tt, inl refl)
 
 -- any value may come where none was logged
 value_left_out : Agrees (tells None) shows
-value_left_out = (refl, tt, tt, tt, tt)
+value_left_out = (refl, tt, tt, tt, inl refl)
 
 -- another value does not agree
 value_differs : Agrees (tells (Some 8)) shows → ⊥
@@ -362,29 +363,34 @@ abbrev pushes : Observation
 pushes = record {
   entry = record { choice = Push A; outcome = outcome.Pushed 0; sent = Some message.Page };
   value = None;
-  rows = Some (row 10 1 ∷ row 20 2 ∷ []);
+  rows = Some (of_rows (row 10 1 ∷ row 20 2 ∷ []));
   node = None;
 }
 
 -- a line of it that tells rows, or none
-abbrev tells_rows : Option (List Row) → LogLine
+abbrev tells_rows : Option PageRows → LogLine
 tells_rows rows = record { log = actor.A; choice = Push A; told = Some (pattern.Pushed (Some 0)); value = None; sent = Some message.Page; rows = rows }
 
 -- the logged rows are those that came
-rows_told : Agrees (tells_rows (Some (row 10 1 ∷ row 20 2 ∷ []))) pushes
-rows_told = (refl, tt, refl, refl, tt)
+rows_told : Agrees (tells_rows (Some (of_rows (row 10 1 ∷ row 20 2 ∷ [])))) pushes
+rows_told = (refl, tt, refl, refl, inl refl)
 
 -- any rows may come where none were logged
 rows_left_out : Agrees (tells_rows None) pushes
-rows_left_out = (refl, tt, refl, tt, tt)
+rows_left_out = (refl, tt, refl, tt, inl refl)
+
+-- how many rows are shown
+abbrev count_of : Option PageRows → ℕ
+count_of None = 0
+count_of (Some x) = x.len
 
 -- no rows are other rows
-no_rows_differ : Agrees (tells_rows (Some [])) pushes → ⊥
-no_rows_differ h = let e = h.3 in cc
+no_rows_differ : Agrees (tells_rows (Some (of_rows []))) pushes → ⊥
+no_rows_differ h = let e : 2 ≡ 0 = ap count_of h.3 in omega (arith, e)
 
 -- so are the first ones alone
-fewer_rows_differ : Agrees (tells_rows (Some (row 10 1 ∷ []))) pushes → ⊥
-fewer_rows_differ h = let e = h.3 in cc
+fewer_rows_differ : Agrees (tells_rows (Some (of_rows (row 10 1 ∷ [])))) pushes → ⊥
+fewer_rows_differ h = let e : 2 ≡ 1 = ap count_of h.3 in omega (arith, e)
 
 -- a begin took place at B
 abbrev begins_at_b : Observation
@@ -406,7 +412,7 @@ stands_not_at_a : Agrees (begin_in actor.A) begins_at_b → ⊥
 stands_not_at_a h = elim h.4 [ inl e ↦ cc | inr e ↦ cc ]
 
 -- all of a step, in words
-all_told : step_words (record { entry = record { choice = Take A; outcome = outcome.GotPull 1; sent = Some message.Page }; value = None; rows = Some []; node = None })
+all_told : step_words (record { entry = record { choice = Take A; outcome = outcome.GotPull 1; sent = Some message.Page }; value = None; rows = Some (of_rows []); node = None })
     ≡ words_of (codes "A take -> got pull 1 ! page rows")
 unfolding digits
 all_told = refl

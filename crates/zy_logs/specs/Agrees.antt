@@ -1,20 +1,13 @@
 -- Whether what a line of a log tells is what a step shows.
 use Rattle.std.specs.Prelude.{◌≡◌, ◌⊎◌, true, IfSome, Some}
-use Rattle.zy_isa.specs.Choices.{actor_at}
-use Rattle.zy_isa.specs.declared.node.Actor.{Actor}
-use Rattle.zy_isa.specs.declared.node.Actor.TheVariants as actor
-use Rattle.zy_isa.specs.declared.node.Node.{Node}
+use Rattle.zy_isa.specs.Choices.{actor_at, actor_of}
 use Rattle.zy_patterns.specs.Patterns.{matches}
 use Rattle.zy_logs.specs.declared.log_line.LogLine.{LogLine}
 use Rattle.zy_table.specs.declared.observation.Observation.{Observation}
 
--- the log is the client's or that of the node
-abbrev pub IsLogOf : Actor → Node → Type 0
-IsLogOf log n = (log ≡ actor.C) ⊎ (log ≡ actor_at n)
-
--- a line stands in the client's log, or in that of the node where the step took place, if it did at one
+-- a line stands in the log of its choice's actor, or in that of the node where the step took place, if it took place at one
 abbrev pub StandsIn : LogLine → Observation → Type 0
-StandsIn line o = IfSome o.node (IsLogOf line.log)
+StandsIn line o = (line.log ≡ actor_of line.choice) ⊎ IfSome o.node (λ n. line.log ≡ actor_at n)
 
 -- a line agrees with what a step shows: each of outcome, value, message and rows that it tells is the step's, and it may stand in its log
 abbrev pub Agrees : LogLine → Observation → Type 0

@@ -14,7 +14,8 @@ use Rattle.zy_table.specs.declared.outcome.Why.{Why}
 use Rattle.zy_table.specs.declared.outcome.Why.TheVariants as why
 use Rattle.zy_table.specs.declared.outcome.Outcome.{Outcome}
 use Rattle.zy_table.specs.declared.outcome.Outcome.TheVariants as outcome
-use Rattle.zy_page.specs.RowLists.{AreKept}
+use Rattle.zy_page.specs.declared.page_rows.PageRows.{PageRows}
+use Rattle.zy_page.specs.RowLists.{AreKept, of_rows, rows_in}
 use Rattle.zy_table.specs.Change.{reg}
 use Rattle.zy_table.specs.Database.{all_leaves}
 use Rattle.zy_table.specs.Observations.{txn_of}
@@ -73,9 +74,13 @@ HoldValues s = (t : ℕ) → (r : Reg) → reg (txn_of s t).regs r ≤ max_value
 abbrev pub AreRows : List Row → Type 0
 AreRows rows = (length rows ≤ max_cap) × AreKept rows
 
+-- such rows by themselves, in the cells of a page
+abbrev pub ArePageRows : PageRows → Type 0
+ArePageRows x = (rows : List Row) × (x ≡ of_rows rows) × AreRows rows
+
 -- a line may tell the rows: the choice takes or pushes, and there are no more than a page may have, in order, and none too large
 abbrev pub AreShown : Observation → Type 0
-AreShown o = IfSome o.rows (λ rows. (can_have_rows o.entry.choice ≡ true) × AreRows rows)
+AreShown o = IfSome o.rows (λ x. (can_have_rows o.entry.choice ≡ true) × ArePageRows x)
 
 -- each page holds rows that a line may tell
 abbrev pub HoldRows : State → Type 0
@@ -150,9 +155,9 @@ abbrev pub row_word : Row → Word
 row_word r = decimal r.key ++ 61 ∷ decimal r.value
 
 -- [ ROWS ]
-abbrev pub rows_words : Option (List Row) → List Word
+abbrev pub rows_words : Option PageRows → List Word
 rows_words None = []
-rows_words (Some rows) = codes "rows" ∷ map row_word rows
+rows_words (Some x) = codes "rows" ∷ map row_word (rows_in x)
 
 -- [ V ] [ ! KIND ] [ ROWS ]
 abbrev pub shown_words : Observation → List Word

@@ -7,10 +7,9 @@ use Rattle.zy_isa.specs.declared.node.Actor.{Actor}
 use Rattle.zy_isa.specs.declared.node.Actor.TheVariants as actor
 use Rattle.zy_isa.specs.declared.choice.Choice.{Choice}
 use Rattle.zy_isa.specs.declared.choice.Choice.TheVariants as choice
-use Rattle.zy_isa.specs.declared.row.Row.{Row}
-use Rattle.zy_isa.specs.Limits.{max_cap}
 use Rattle.zy_isa.specs.Results.{◌>>=◌}
 use Rattle.zy_model.specs.declared.kind.Kind.{Kind}
+use Rattle.zy_page.specs.declared.page_rows.PageRows.{PageRows}
 use Rattle.zy_logs.specs.declared.expected.ExpectedInLog.{ExpectedInLog}
 use Rattle.zy_logs.specs.declared.expected.ExpectedInLog.TheVariants as expected
 use Rattle.zy_logs.specs.declared.expected.Misread.{Misread}
@@ -25,7 +24,7 @@ use Rattle.zy_logs.specs.declared.reading.cursor.Misfit.{Misfit}
 use Rattle.zy_logs.specs.Words.{Word, Read, first, after, are_none, begin_with, message_or_end, stop, refused, gives, made}
 use Rattle.zy_logs.specs.Parts.{or_none, page, place, value, txn, txn_or_none, node_at, reason}
 use Rattle.zy_logs.specs.Possible.{can_give, can_have_rows, can_stand}
-use Rattle.zy_logs.specs.Rows.{rows_from}
+use Rattle.zy_logs.specs.Rows.{page_rows}
 use Rattle.zy_patterns.specs.Vocabulary as word
 use Rattle.zy_patterns.specs.Paged.{with_page}
 
@@ -143,13 +142,13 @@ sent_of c ws =
     refused (expected.AfterOutcome c) ws
 
 -- ROWS, to the last word
-abbrev pub some_rows : Result (List Row) Misfit → Result (Option (List Row)) Misfit
+abbrev pub some_rows : Result PageRows Misfit → Result (Option PageRows) Misfit
 some_rows r = r >>= λ rows. Ok (Some rows)
 
 -- [ ROWS ], and nothing after them
-abbrev pub rows_of : Choice → List Word → Result (Option (List Row)) Misfit
+abbrev pub rows_of : Choice → List Word → Result (Option PageRows) Misfit
 rows_of c ws =
-    if rows_come c ws then some_rows (rows_from 0 max_cap (after ws)) else
+    if rows_come c ws then some_rows (page_rows (after ws)) else
     if are_none ws then Ok None else
     Err (stop (expected.AfterMessage c) ws)
 

@@ -4,7 +4,7 @@ use Rattle.std.specs.declared.vec.Vec.{Vec}
 use Rattle.std.specs.declared.alloc.Global.{Global}
 use Rattle.zy_isa.specs.declared.choice.Choice.{Choice}
 use Rattle.zy_isa.specs.Choices.{actor_of}
-use Rattle.zy_isa.specs.declared.node.Actor.TheVariants as actor
+use Rattle.zy_isa.specs.declared.node.Actor.TheVariants.{C}
 use Rattle.zy_isa.specs.Results.{◌>>=◌}
 use Rattle.zy_text.specs.Words.{lines_of, words_of}
 use Rattle.zy_logs.specs.declared.expected.ExpectedInLog.TheVariants.{FewerLines}
@@ -87,9 +87,14 @@ Pushes (Ok u) old item new = new ≡ old ++ item ∷ []
 Pushes (Err (Refused r)) old item new = ⊥
 Pushes (Err Memory) old item new = Unit {0}
 
--- a line stands in its actor's log, or tells a choice of the client
+-- a line stands in the log of its choice's actor, or tells a choice of the client
 abbrev pub IsInALog : LogLine → Type 0
-IsInALog line = (line.log ≡ actor_of line.choice) ⊎ (actor_of line.choice ≡ actor.C)
+IsInALog line = (actor_of line.choice ≡ line.log) ⊎ (actor_of line.choice ≡ C)
+
+-- so does each of some lines
+abbrev pub AreInLogs : List LogLine → Type 0
+AreInLogs [] = Unit {0}
+AreInLogs (line ∷ lines) = IsInALog line × AreInLogs lines
 
 -- how a reader takes a line: it adds what the line tells, if anything, and has less room, unless the line is refused or there was no memory
 abbrev pub TakesLine : Result (Unit {0}) LogFault → (old new : LogReader) → Result (Option NumberedLine) LogLineFault → Type 0

@@ -1,9 +1,11 @@
 -- The rows of a page that words spell, each K=V, up to the end of the line.
 use Rattle.std.specs.Prelude.{ℕ, ◌+◌, ◌-◌, ◌==◌, nat_lt, List, [], ◌∷◌, drop, take, position, Option, Some, None, Result, Ok, Err, if◌then◌else◌}
 use Rattle.zy_isa.specs.declared.row.Row.{Row}
-use Rattle.zy_isa.specs.Limits.{max_key, max_value}
+use Rattle.zy_isa.specs.Limits.{max_cap, max_key, max_value}
 use Rattle.zy_isa.specs.Results.{◌>>=◌}
 use Rattle.zy_isa.specs.Rows.{row}
+use Rattle.zy_page.specs.declared.page_rows.PageRows.{PageRows}
+use Rattle.zy_page.specs.RowLists.{of_rows}
 use Rattle.zy_logs.specs.declared.expected.ExpectedInLog.TheVariants as expected
 use Rattle.zy_logs.specs.declared.reading.cursor.Misfit.{Misfit}
 use Rattle.zy_logs.specs.Parts.{number_in}
@@ -40,3 +42,7 @@ onto r more = more >>= λ rows. Ok (r ∷ rows)
 abbrev pub rows_from : ℕ → ℕ → List Word → Result (List Row) Misfit
 rows_from low room [] = Ok []
 rows_from low room (w ∷ ws) = next_row low room (w ∷ ws) >>= λ r. onto r (rows_from (r.key + 1) (room - 1) ws)
+
+-- the rows of a page by themselves that all of the words spell
+abbrev pub page_rows : List Word → Result PageRows Misfit
+page_rows ws = rows_from 0 max_cap ws >>= λ rows. Ok (of_rows rows)

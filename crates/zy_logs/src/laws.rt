@@ -1,6 +1,5 @@
 //! What holds of all logs that are read: each function is a law, and its contract is all of it.
 ghost use Rattle.std.specs.Prelude.{◌≡◌, ◌≤◌, ◌++◌, ℕ, IfSome, List, Ok, true};
-ghost use Rattle.std.specs.List.{All};
 ghost use Rattle.zy_isa.specs.declared.choice.Choice.{Choice as AChoice};
 ghost use Rattle.zy_isa.specs.Choices.{actor_at, actor_of, names_below};
 ghost use Rattle.zy_isa.specs.declared.node.Actor.TheVariants.{C};
@@ -18,21 +17,21 @@ ghost use Rattle.zy_logs.specs.declared.txns.Txns.{Txns as SomeTxns};
 ghost use Rattle.zy_logs.specs.InFull.{AreShown, HoldRows, HoldValues, IsShown, IsTold, in_full, in_log};
 ghost use Rattle.zy_logs.specs.InFull.{outcome_words, step_words, words_in};
 ghost use Rattle.zy_logs.specs.Lines.{line_of, outcome_of};
-ghost use Rattle.zy_logs.specs.Logs.{IsInALog, choices_of, logs_of, steps, steps_in};
+ghost use Rattle.zy_logs.specs.Logs.{AreInLogs, choices_of, logs_of, steps, steps_in};
 ghost use Rattle.zy_logs.specs.Possible.{can_give, can_stand};
 ghost use Rattle.zy_logs.specs.Words.{Word as AWord};
 ghost use Rattle.zy_patterns.specs.declared.patterns.OutcomePattern.{OutcomePattern as APattern};
 ghost use Rattle.zy_patterns.specs.Patterns.{exactly, matches};
 
-/// The lines that a text spells name transactions that there are, and count for no more steps than there may be. Each stands in its
-/// actor's log, or tells a choice of the client.
+/// The lines that a text spells name transactions that there are, and count for no more steps than there may be. Each stands in the log
+/// of its choice's actor, or tells a choice of the client.
 pub fn logs_fit()
     ensures named { (txns : SomeTxns) → (gap most first : ℕ) → (text : List ℕ) → (lines : List ALine)
         → logs_of txns gap most first text ≡ Ok lines → AreNamed txns.count (choices_of lines) }
     ensures few { (txns : SomeTxns) → (gap most first : ℕ) → (text : List ℕ) → (lines : List ALine)
         → logs_of txns gap most first text ≡ Ok lines → steps_in gap lines ≤ most }
     ensures placed { (txns : SomeTxns) → (gap most first : ℕ) → (text : List ℕ) → (lines : List ALine)
-        → logs_of txns gap most first text ≡ Ok lines → All IsInALog (steps lines) }
+        → logs_of txns gap most first text ≡ Ok lines → AreInLogs (steps lines) }
 {}
 
 /// A choice can give each pattern that matches the outcome of one of its steps, in any scenario and state. The pattern may stand in

@@ -1,7 +1,8 @@
 //! A line of a log.
-ghost use Rattle.std.specs.Prelude.{◌≡◌, IfSome, Some, true};
+ghost use Rattle.std.specs.Prelude.{◌≡◌, ◌⊎◌, IfSome, Some, true};
 ghost use Rattle.std.specs.Bool.{Decides};
-ghost use Rattle.zy_logs.specs.Agrees.{Agrees, IsLogOf};
+ghost use Rattle.zy_isa.specs.Choices.{actor_at, actor_of};
+ghost use Rattle.zy_logs.specs.Agrees.{Agrees};
 ghost use Rattle.zy_logs.specs.Logs.{steps_of};
 ghost use Rattle.zy_patterns.specs.Patterns.{matches as matches_outcome};
 
@@ -69,39 +70,38 @@ fn is_sent(logged: Option<Kind>, came: Option<Kind>) -> bool
     }
 }
 
-/// Whether the rows that a step shows are those that were logged.
-fn are_same(logged: &PageRows, came: &PageRows) -> bool
-    ensures { Decides result (came.now ≡ logged.now) }
-{
-    came.as_slice() == logged.as_slice()
-}
-
 /// Whether a step shows the logged rows, if rows were logged.
-fn are_rows(logged: &Option<PageRows>, came: &Option<PageRows>) -> bool
-    ensures { Decides result (IfSome logged.now (λ rows. came.now ≡ Some rows)) }
+fn are_rows(logged: Option<PageRows>, came: Option<PageRows>) -> bool
+    ensures { Decides result (IfSome logged (λ rows. came ≡ Some rows)) }
 {
-    match (logged, came) {
-        (None, _) => true,
-        (Some(logged), Some(came)) => are_same(logged, came),
-        (Some(_), None) => false,
-    }
-}
-
-/// Whether a line of the log may tell a step that took place at this node, if it did at one: the log is the client's or that of
-/// the node.
-fn stands_in(log: Actor, node: Option<Node>) -> bool
-    ensures { Decides result (IfSome node (IsLogOf log)) }
-{
-    match node {
-        Some(node) => log == Actor::C || log == Actor::of(node),
+    match logged {
+        Some(rows) => came == Some(rows),
         None => true,
     }
 }
 
+/// Whether a log is that of the node where a step took place, if it took place at one.
+fn is_log_of(log: Actor, node: Option<Node>) -> bool
+    ensures { Decides result (IfSome node (λ n. log ≡ actor_at n)) }
+{
+    match node {
+        Some(node) => log == Actor::of(node),
+        None => true,
+    }
+}
+
+/// Whether a line stands in the log of its choice's actor, or in that of the node where the step took place, if it took place at
+/// one.
+fn stands_in(log: Actor, choice: Choice, node: Option<Node>) -> bool
+    ensures { Decides result ((log ≡ actor_of choice) ⊎ IfSome node (λ n. log ≡ actor_at n)) }
+{
+    log == choice.actor() || is_log_of(log, node)
+}
+
 impl Logged {
     /// How many steps it counts for, where a gap counts for `gap`.
-    pub fn steps(&self, gap: usize) -> usize
-        ensures { result ≡ steps_of gap self.now }
+    pub fn steps(self, gap: usize) -> usize
+        ensures { result ≡ steps_of gap self }
     {
         match self {
             Logged::Step(_) => 1,
@@ -112,14 +112,14 @@ impl Logged {
 
 impl LogLine {
     /// Whether the line agrees with what a step shows: each of outcome, value, message and rows that it tells is the step's, and
-    /// it stands in the log of the client or of the node where the step took place, if it did at one.
+    /// it stands in the log of its choice's actor, or in that of the node where the step took place, if it took place at one.
     pub fn agrees(&self, observation: &Observation) -> bool
         ensures { Decides result (Agrees self.now observation.now) }
     {
         is_outcome(self.told, observation.entry.outcome)
             && is_value(self.value, observation.value)
             && is_sent(self.sent, observation.entry.sent)
-            && are_rows(&self.rows, &observation.rows)
-            && stands_in(self.log, observation.node)
+            && are_rows(self.rows, observation.rows)
+            && stands_in(self.log, self.choice, observation.node)
     }
 }

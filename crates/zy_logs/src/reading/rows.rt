@@ -1,6 +1,5 @@
 //! Reads the rows of a page, up to the end of the line.
 ghost use Rattle.std.specs.Prelude.{◌≡◌, ◌==◌, ◌<◌, IfOk, position};
-ghost use Rattle.zy_isa.specs.Limits.{max_cap};
 ghost use Rattle.zy_logs.specs.Cursors.{left};
 ghost use Rattle.zy_logs.specs.Rows as spec;
 ghost use Rattle.zy_logs.specs.Words.{first};
@@ -51,7 +50,7 @@ fn next_row(low: u32, room: usize, at: LogCursor<'_>) -> Result<Row, Misfit>
 
 /// The rows that the words spell, up to the last one.
 pub fn rows(at: LogCursor<'_>) -> Result<PageRows, Misfit>
-    ensures { result ≡ spec.rows_from 0 max_cap (left at.entry) }
+    ensures { result ≡ spec.page_rows (left at.entry) }
 {
     let mut rows = PageRows::new();
     let mut low = 0;
