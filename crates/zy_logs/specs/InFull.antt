@@ -173,6 +173,6 @@ log_word actor.C = codes "C"
 log_word actor.A = codes "A"
 log_word actor.B = codes "B"
 
--- the same in the log of an actor
+-- the words of a step in the log of an actor
 abbrev pub words_in : Actor → Observation → List Word
 words_in x o = log_word x ∷ after (step_words o)

@@ -58,8 +58,8 @@ pub fn rows_are_shown()
 {}
 
 /// The reader takes the words that tell all of an outcome as the pattern that matches only this outcome, whatever words follow. It
-/// reads the words of all that a step shows likewise: its choice, its outcome, and the value, the sent message and the rows, if any. So it does
-/// where the line of a choice of the client stands in the log of a node.
+/// reads the words of all that a step shows likewise: its choice, its outcome, and the value, the sent message and the rows, if any. So
+/// it does where the line of a choice of the client stands in the log of a node.
 pub fn told_in_full()
     ensures outcome { (txns : SomeTxns) → txns.count ≤ max_txns → (told : AnOutcome) → IsTold txns.count told → (rest : List AWord)
         → outcome_of txns (outcome_words told ++ rest) ≡ Ok (exactly told, rest) }
