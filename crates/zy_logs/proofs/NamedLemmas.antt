@@ -255,7 +255,7 @@ all_named : (count : ℕ) (lines : List LogLine) → AllFit count lines → AreN
 all_named count [] h = tt
 all_named count (line ∷ lines) h = (h.0.0, all_named count lines h.1)
 
--- each of them stands in a log
+-- each of them stands in the log of its choice's actor, or tells a choice of the client
 all_placed : (count : ℕ) (lines : List LogLine) → AllFit count lines → AreInLogs lines
 all_placed count [] h = tt
 all_placed count (line ∷ lines) h = (h.0.1, all_placed count lines h.1)
@@ -265,7 +265,7 @@ pub logs_named : (txns : Txns) (gap most first : ℕ) (text : List ℕ) (lines :
     → logs_of txns gap most first text ≡ Ok lines → AreNamed txns.count (choices_of lines)
 logs_named txns gap most first text lines e = all_named txns.count (steps lines) (all_fit txns gap most first text lines e)
 
--- each stands in a log
+-- each line of a text stands in the log of its choice's actor, or tells a choice of the client
 pub logs_placed : (txns : Txns) (gap most first : ℕ) (text : List ℕ) (lines : List NumberedLine)
     → logs_of txns gap most first text ≡ Ok lines → AreInLogs (steps lines)
 logs_placed txns gap most first text lines e = all_placed txns.count (steps lines) (all_fit txns gap most first text lines e)

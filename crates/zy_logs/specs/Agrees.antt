@@ -9,7 +9,8 @@ use Rattle.zy_table.specs.declared.observation.Observation.{Observation}
 abbrev pub StandsIn : LogLine → Observation → Type 0
 StandsIn line o = (line.log ≡ actor_of line.choice) ⊎ IfSome o.node (λ n. line.log ≡ actor_at n)
 
--- a line agrees with what a step shows: each of outcome, value, message and rows that it tells is the step's, and it may stand in its log
+-- a line agrees with what a step shows: each of outcome, value, message and rows that it tells is the step's, and it stands in a log where
+-- the step may be told
 abbrev pub Agrees : LogLine → Observation → Type 0
 Agrees line o = IfSome line.told (λ t. matches t o.entry.outcome ≡ true) × IfSome line.value (λ v. o.value ≡ Some v)
     × IfSome line.sent (λ kind. o.entry.sent ≡ Some kind) × IfSome line.rows (λ rows. o.rows ≡ Some rows)

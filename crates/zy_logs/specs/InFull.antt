@@ -74,7 +74,7 @@ HoldValues s = (t : ℕ) → (r : Reg) → reg (txn_of s t).regs r ≤ max_value
 abbrev pub AreRows : List Row → Type 0
 AreRows rows = (length rows ≤ max_cap) × AreKept rows
 
--- such rows by themselves, in the cells of a page
+-- the rows of a page by themselves that a line may tell: they are made of such rows
 abbrev pub ArePageRows : PageRows → Type 0
 ArePageRows x = (rows : List Row) × (x ≡ of_rows rows) × AreRows rows
 

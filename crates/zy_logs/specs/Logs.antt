@@ -81,12 +81,6 @@ steps (l ∷ lines) = step_of l.logged ++ steps lines
 abbrev pub choices_of : List NumberedLine → List Choice
 choices_of lines = map (λ (line : LogLine). line.choice) (steps lines)
 
--- an item is behind the others, unless there was no memory
-abbrev pub Pushes : {T : Type 0} → Result (Unit {0}) LogFault → List T → T → List T → Type 0
-Pushes (Ok u) old item new = new ≡ old ++ item ∷ []
-Pushes (Err (Refused r)) old item new = ⊥
-Pushes (Err Memory) old item new = Unit {0}
-
 -- a line stands in the log of its choice's actor, or tells a choice of the client
 abbrev pub IsInALog : LogLine → Type 0
 IsInALog line = (actor_of line.choice ≡ line.log) ⊎ (actor_of line.choice ≡ C)

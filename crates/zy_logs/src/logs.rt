@@ -1,10 +1,10 @@
 //! Reads the lines of logs of a text.
-ghost use Rattle.std.specs.Prelude.{◌≡◌, ◌≤◌, ◌<◌, ◌+◌, length, Ok, Some};
+ghost use Rattle.std.specs.Prelude.{◌≡◌, ◌≤◌, ◌<◌, ◌+◌, length};
 ghost use Rattle.zy_isa.specs.Limits.{max_txns};
 ghost use Rattle.zy_text.specs.Lines.{texts, line_number_end};
 ghost use Rattle.zy_text.specs.Words as text_words;
 ghost use Rattle.zy_logs.specs.Logs as spec;
-ghost use Rattle.zy_logs.specs.Logs.{Pushes, Reads, TakesLine};
+ghost use Rattle.zy_logs.specs.Logs.{Reads, TakesLine};
 
 use crate::expected::ExpectedInLog;
 use crate::faults::{LogFault, LogLineFault};
@@ -34,24 +34,7 @@ struct LogReader<'a> {
     lines: Vec<NumberedLine>,
 }
 
-/// Adds an item behind others, if there is memory.
-fn push<T: Copy>(items: &mut Vec<T>, item: T) -> Result<(), LogFault>
-    ensures { Pushes result items.old.items item items.new.items }
-{
-    items.push(item).map_err(|_| LogFault::Memory)
-}
-
 impl LogReader<'_> {
-    /// Adds a line, after which there is less room.
-    fn add(&mut self, line: NumberedLine) -> Result<(), LogFault>
-        ensures { TakesLine result self.old self.new (Ok (Some line)) }
-    {
-        let steps = line.logged.steps(self.gap);
-        push(&mut self.lines, line)?;
-        self.left = self.left.saturating_sub(steps);
-        Ok(())
-    }
-
     /// What the words of line `number` say, if there are words.
     fn line_at(&self, number: usize, words: &[&[u8]]) -> Result<Option<NumberedLine>, LogLineFault>
         requires { self.now.txns.count ≤ max_txns }
@@ -62,8 +45,7 @@ impl LogReader<'_> {
         }
         match read_line(self.txns, words) {
             Ok(logged) => {
-                let steps = logged.steps(self.gap);
-                if steps <= self.left {
+                if logged.steps(self.gap) <= self.left {
                     Ok(Some(NumberedLine { number, logged }))
                 } else {
                     Err(LogLineFault {
@@ -88,11 +70,12 @@ impl LogReader<'_> {
             (text_words.words_of line.now)) }
     {
         let words = words_of(alloc, line)?;
-        match self.line_at(number, &words) {
-            Ok(Some(line)) => self.add(line),
-            Ok(None) => Ok(()),
-            Err(fault) => Err(LogFault::Refused(fault)),
-        }
+        let Some(line) = self.line_at(number, &words)? else {
+            return Ok(());
+        };
+        self.lines.push(line).map_err(|_| LogFault::Memory)?;
+        self.left = self.left.saturating_sub(line.logged.steps(self.gap));
+        Ok(())
     }
 }
 
