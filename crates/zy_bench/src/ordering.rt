@@ -157,7 +157,7 @@ fn sum_up<R: Eprint + AllocGlobal>(
     let states = Count::of(report.states, "state");
     let (order, status, end, takes) = match &report.answer {
         OrderAnswer::Found(order) => {
-            let steps = Steps::of(report.taken, order.len());
+            let steps = Steps::of(ordered, order.len());
             let _ = eprintln!(rt; "zy_bench: found after {states}: an order of {steps}");
             return Ok(DONE);
         }

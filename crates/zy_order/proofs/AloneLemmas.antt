@@ -1,11 +1,12 @@
 -- A line that may be followed alone may be made before the steps of others: what comes of a way that begins by it.
-use Rattle.std.proofs.Common.{true, ◌≡◌, ◌∙◌, ℕ, ◌+◌, ◌<◌, ◌≤◌, ◌⊎◌, inl, inr, List, [], ◌∷◌, ◌++◌, length, refl, sym, ap, subst, arith, drop, length-append, slice_get, Some, Option}
+use Rattle.std.proofs.Common.{true, ◌≡◌, ◌∙◌, ℕ, ◌+◌, ◌<◌, ◌≤◌, ◌⊎◌, inl, inr, List, [], ◌∷◌, ◌++◌, length, refl, sym, ap, subst, arith, drop, length-append, slice_get, None, Some, Option}
 use Rattle.std.specs.Prelude.{IfSome}
 use Rattle.std.proofs.lemmas.Bool.{false≢true}
 use Rattle.std.proofs.lemmas.Option.{slice_get_within}
 use Rattle.zy_isa.specs.declared.node.Node.{Node}
 use Rattle.zy_isa.specs.declared.node.Node.TheVariants as node
 use Rattle.zy_isa.specs.declared.node.Actor.{Actor}
+use Rattle.zy_isa.specs.declared.version.Version.{Version}
 use Rattle.zy_isa.specs.declared.node.Actor.TheVariants.{C, A, B}
 use Rattle.zy_isa.specs.declared.choice.Choice.{Choice}
 use Rattle.zy_isa.specs.declared.choice.Choice.TheVariants.{Run}
@@ -34,11 +35,13 @@ use Rattle.zy_order.specs.Gaps.{gaps_of}
 use Rattle.zy_table.specs.Observations.{observation_at, observations}
 use Rattle.zy_search.specs.Stuck.{is_still}
 use Rattle.zy_search.proofs.StillSteps.{still_stays}
-use Rattle.zy_order.specs.Ways.{log_of, cursor_of, cursor, gap_at, passed, filled, moved, advanced}
-use Rattle.zy_order.specs.Ways.{IsNoFurther, AreMatched, HasGap, Leads, IsWay}
+use Rattle.zy_order.specs.declared.tellers.Tellers.{Tellers}
+use Rattle.zy_order.specs.declared.tellers.Tellers.TheVariants.{One, Both}
+use Rattle.zy_order.specs.Ways.{log_of, cursor_of, cursor, gap_at, passed, filled, moved, advanced, advanced_by}
+use Rattle.zy_order.specs.Ways.{IsNoFurther, AreLinesOf, AreMatched, IsNextLine, ComeBy, TellNext, HasGap, Leads, IsWay}
 use Rattle.zy_order.specs.Reaches.{is_nothing, TellsDid, TellsNothing, MayBeAlone}
 use Rattle.zy_order.proofs.NeedLemmas.{no_further_self}
-use Rattle.zy_order.proofs.WayLemmas.{matched_of, same_line}
+use Rattle.zy_order.proofs.WayLemmas.{matched_of, no_client, same_line}
 
 -- ---- two actors
 
@@ -80,59 +83,134 @@ same_or_not B B = inl refl
 
 -- ---- the steps of other actors
 
-module _ (count : ℕ) (l : Logs) (x : Actor) (g : Cursors) (o : Observation) (to : Cursors) (far : actor_of o.entry.choice ≡ x → ⊥) (leads : Leads count l g o to) where
-  -- where such a step leads on, it leads on behind a line of x
-  leads_beside : Leads count l (advanced x g) o (advanced x to)
-  leads_beside =
-      let y = actor_of o.entry.choice in
-      let same = beside passed x y g far in
-      elim leads [
-        | inl by ↦ inl (
-          record {
-            line = by.0.line;
-            next = ap (λ (k : Cursor). slice_get (log_of y l) k.lines) same ∙ by.0.next;
-            choice = by.0.choice;
-            agrees = by.0.agrees;
-          },
-          ap (advanced x) by.1 ∙ moved_swap passed passed x y g far,
-        )
-        | inr by ↦ inr (
-          record { named = by.0.named; gap = subst (λ (k : Cursor). k.missing < gap_at (gaps_of y l.gaps) k) (sym same) by.0.gap },
-          ap (advanced x) by.1 ∙ moved_swap passed filled x y g far,
-        )
-      ]
+-- an actor's log is none of these
+abbrev Apart : Actor → Tellers → Type 0
+Apart x (One y) = y ≡ x → ⊥
+Apart x (Both m) = (C ≡ x → ⊥) × (actor_at m ≡ x → ⊥)
 
-  -- the cursor of x is where it was
-  leads_stays : cursor_of x to ≡ cursor_of x g
-  leads_stays =
-      let y = actor_of o.entry.choice in
-      let other : x ≡ y → ⊥ = λ same. far (sym same) in
-      elim leads [
-        | inl by ↦ ap (cursor_of x) by.1 ∙ beside passed y x g other
-        | inr by ↦ ap (cursor_of x) by.1 ∙ beside filled y x g other
-      ]
+-- so lines of these logs leave its cursor where it was
+by_beside : (x : Actor) (by : Tellers) (g : Cursors) → Apart x by → cursor_of x (advanced_by by g) ≡ cursor_of x g
+by_beside x (One y) g far = beside passed y x g (λ e. far (sym e))
+by_beside x (Both m) g far =
+    beside passed (actor_at m) x (advanced C g) (λ e. far.1 (sym e)) ∙ beside passed C x g (λ e. far.0 (sym e))
+
+-- and may be matched behind a line of it
+by_swap : (x : Actor) (by : Tellers) (g : Cursors) → Apart x by → advanced x (advanced_by by g) ≡ advanced_by by (advanced x g)
+by_swap x (One y) g far = moved_swap passed passed x y g far
+by_swap x (Both m) g far =
+    moved_swap passed passed x (actor_at m) (advanced C g) far.1 ∙ ap (advanced (actor_at m)) (moved_swap passed passed x C g far.0)
+
+-- a next line is next behind a line of another actor
+line_beside : (x y : Actor) (l : Logs) (g : Cursors) (line : LogLine) → (y ≡ x → ⊥) → IsNextLine y l g line → IsNextLine y l (advanced x g) line
+line_beside x y l g line far next = ap (λ (k : Cursor). slice_get (log_of y l) k.lines) (beside passed x y g far) ∙ next
+
+-- so are those that come next
+come_beside : (v : Version) (x : Actor) (l : Logs) (g : Cursors) (by : Tellers) (line : LogLine) (other : Option LogLine) → Apart x by
+    → ComeBy by v l g line other → ComeBy by v l (advanced x g) line other
+come_beside v x l g (One y) line None far come = record { next = line_beside x y l g line far come.next; alone = come.alone }
+come_beside v x l g (One y) line (Some other) far come = absurd come
+come_beside v x l g (Both m) line None far come = absurd come
+come_beside v x l g (Both m) line (Some other) far come = record {
+  client = line_beside x C l g line far.0 come.client;
+  node = line_beside x (actor_at m) l g other far.1 come.node;
+  may = come.may;
+}
+
+-- an actor's next line is of its own choice
+record HasOwnLine (l : Logs) (x : Actor) (g : Cursors) : Type 0 where
+  pub line : LogLine
+  pub next : IsNextLine x l g line
+  pub own : actor_of line.choice ≡ x
+
+-- so lines of another choice that come next are of other logs, if the actor is a node
+come_apart : (v : Version) (n : Node) (l : Logs) (g : Cursors) (by : Tellers) (line : LogLine) (other : Option LogLine)
+    → HasOwnLine l (actor_at n) g → (actor_of line.choice ≡ actor_at n → ⊥) → ComeBy by v l g line other → Apart (actor_at n) by
+come_apart v n l g (One y) line None has far come = λ e.
+    let same = same_line (actor_at n) l g line has.line (subst (λ (z : Actor). IsNextLine z l g line) e come.next) has.next in
+    far (ap (λ (m : LogLine). actor_of m.choice) same ∙ has.own)
+come_apart v n l g (One y) line (Some other) has far come = absurd come
+come_apart v n l g (Both m) line None has far come = absurd come
+come_apart v n l g (Both m) line (Some other) has far come = (
+  λ e. no_client n e,
+  λ e.
+      let same = same_line (actor_at n) l g other has.line (subst (λ (z : Actor). IsNextLine z l g other) e come.node) has.next in
+      far (ap actor_of come.may.choice ∙ (ap (λ (m : LogLine). actor_of m.choice) same ∙ has.own)),
+)
+
+module _ (sc : Scenario) (l : Logs) (n : Node) (g : Cursors) (o : Observation) (to : Cursors) (has : HasOwnLine l (actor_at n) g)
+    (far : actor_of o.entry.choice ≡ actor_at n → ⊥) (leads : Leads sc l g o to) where
+  -- the node, as an actor
+  abbrev at_n : Actor
+  at_n = actor_at n
+
+  -- lines that tell such a step are of other logs
+  tell_apart : (tell : TellNext sc.version l g o) → Apart at_n tell.lines.by
+  tell_apart tell =
+      let lines = tell.lines in
+      come_apart sc.version n l g lines.by lines.line lines.other has (λ e. far (sym (ap actor_of tell.choice) ∙ e)) tell.next
+
+  -- where such a step leads on, it leads on behind a line of the node
+  leads_beside : Leads sc l (advanced at_n g) o (advanced at_n to)
+  leads_beside = elim leads [
+    | inl by ↦
+        let lines = by.0.lines in
+        let apart = tell_apart by.0 in
+        inl (
+          record {
+            lines = lines;
+            next = come_beside sc.version at_n l g lines.by lines.line lines.other apart by.0.next;
+            choice = by.0.choice;
+            agree = by.0.agree;
+          },
+          ap (advanced at_n) by.1 ∙ by_swap at_n lines.by g apart,
+        )
+    | inr by ↦
+        let y = actor_of o.entry.choice in
+        let same = beside passed at_n y g far in
+        inr (
+          record { named = by.0.named; gap = subst (λ (k : Cursor). k.missing < gap_at (gaps_of y l.gaps) k) (sym same) by.0.gap },
+          ap (advanced at_n) by.1 ∙ moved_swap passed filled at_n y g far,
+        )
+  ]
+
+  -- the cursor of the node is where it was
+  leads_stays : cursor_of at_n to ≡ cursor_of at_n g
+  leads_stays = elim leads [
+    | inl by ↦ ap (cursor_of at_n) by.1 ∙ by_beside at_n by.0.lines.by g (tell_apart by.0)
+    | inr by ↦ ap (cursor_of at_n) by.1 ∙ beside filled (actor_of o.entry.choice) at_n g (λ same. far (sym same))
+  ]
+
+  -- so its next line is the same
+  own_line_stays : HasOwnLine l at_n to
+  own_line_stays = record {
+    line = has.line;
+    next = ap (λ (k : Cursor). slice_get (log_of at_n l) k.lines) leads_stays ∙ has.next;
+    own = has.own;
+  }
 
 -- where a way of other actors leads on, it leads on behind a line of node n, from a state in which the same comes of it
-way_beside : (sc : Scenario) (l : Logs) (n : Node) (g : Cursors) (s r : State) (cs : List Choice) (to : Cursors) → AreOfOthers n cs
-    → observations sc r cs ≡ observations sc s cs → IsWay sc l g s cs to → IsWay sc l (advanced (actor_at n) g) r cs (advanced (actor_at n) to)
-way_beside sc l n g s r [] to far same way = ap (advanced (actor_at n)) way
-way_beside sc l n g s r (c ∷ cs) to far same way =
-    let count = length sc.programs in
+way_beside : (sc : Scenario) (l : Logs) (n : Node) (g : Cursors) (s r : State) (cs : List Choice) (to : Cursors) → HasOwnLine l (actor_at n) g
+    → AreOfOthers n cs → observations sc r cs ≡ observations sc s cs → IsWay sc l g s cs to
+    → IsWay sc l (advanced (actor_at n) g) r cs (advanced (actor_at n) to)
+way_beside sc l n g s r [] to has far same way = ap (advanced (actor_at n)) way
+way_beside sc l n g s r (c ∷ cs) to has far same way =
     let x = actor_at n in
-    let first : observation_at sc r c ≡ observation_at sc s c = cc same in
+    let o = observation_at sc s c in
+    let first : observation_at sc r c ≡ o = cc same in
     let rest : observations sc (step sc c r).after cs ≡ observations sc (step sc c s).after cs = ap (drop 1) same in (
       advanced x way.0,
-      subst (λ (o : Observation). Leads count l (advanced x g) o (advanced x way.0)) (sym first) (leads_beside count l x g (observation_at sc s c) way.0 far.0 way.1),
-      way_beside sc l n way.0 (step sc c s).after (step sc c r).after cs to far.1 rest way.2,
+      subst (λ (o : Observation). Leads sc l (advanced x g) o (advanced x way.0)) (sym first) (leads_beside sc l n g o way.0 has far.0 way.1),
+      way_beside sc l n way.0 (step sc c s).after (step sc c r).after cs to (own_line_stays sc l n g o way.0 has far.0 way.1) far.1 rest way.2,
     )
 
 -- the cursor of the node is where it was
-way_stays : (sc : Scenario) (l : Logs) (n : Node) (g : Cursors) (s : State) (cs : List Choice) (to : Cursors) → AreOfOthers n cs → IsWay sc l g s cs to
-    → cursor_of (actor_at n) to ≡ cursor_of (actor_at n) g
-way_stays sc l n g s [] to far way = ap (cursor_of (actor_at n)) (sym way)
-way_stays sc l n g s (c ∷ cs) to far way =
-    way_stays sc l n way.0 (step sc c s).after cs to far.1 way.2
-    ∙ leads_stays (length sc.programs) l (actor_at n) g (observation_at sc s c) way.0 far.0 way.1
+way_stays : (sc : Scenario) (l : Logs) (n : Node) (g : Cursors) (s : State) (cs : List Choice) (to : Cursors) → HasOwnLine l (actor_at n) g
+    → AreOfOthers n cs → IsWay sc l g s cs to → cursor_of (actor_at n) to ≡ cursor_of (actor_at n) g
+way_stays sc l n g s [] to has far way = ap (cursor_of (actor_at n)) (sym way)
+way_stays sc l n g s (c ∷ cs) to has far way =
+    let o = observation_at sc s c in
+    way_stays sc l n way.0 (step sc c s).after cs to (own_line_stays sc l n g o way.0 has far.0 way.1) far.1 way.2
+    ∙ leads_stays sc l n g o way.0 has far.0 way.1
 
 -- a way, and then another
 way_append : (sc : Scenario) (l : Logs) (g : Cursors) (s : State) (cs ds : List Choice) (there to : Cursors) → IsWay sc l g s cs there
@@ -153,7 +231,7 @@ record HasOwn (sc : Scenario) (l : Logs) (n : Node) (g : Cursors) (s : State) (c
   pub others : AreOfOthers n before
   pub is : actor_of own ≡ actor_at n
   pub way : IsWay sc l g s before there
-  pub leads : Leads (length sc.programs) l there (observation_at sc (play sc s before) own) next
+  pub leads : Leads sc l there (observation_at sc (play sc s before) own) next
   pub goes_on : IsWay sc l next (step sc own (play sc s before)).after rest to
   pub ends : play sc s cs ≡ play sc (step sc own (play sc s before)).after rest
 
@@ -278,9 +356,10 @@ pub record BeginsBy (sc : Scenario) (l : Logs) (c : Choice) (g : Cursors) (s : S
   pub whole : AreMatched l to → AreMatched l end
   pub ends : AreMatched l to → play sc (step sc c s).after choices ≡ play sc s cs
 
--- The line is the next one of node n, no step may be missing before it, and it comes first.
+-- The line is the next one of node n, of its own choice, no step may be missing before it, and it comes first.
 module _ (sc : Scenario) (l : Logs) (n : Node) (g : Cursors) (s : State) (line : LogLine) (comes : ComesFirst sc n s line)
-    (next : slice_get (log_of (actor_at n) l) (cursor (actor_at n) g) ≡ Some line) (sure : HasGap (actor_at n) l g → ⊥) where
+    (are : (x : Actor) → AreLinesOf (length sc.programs) x (log_of x l)) (next : IsNextLine (actor_at n) l g line)
+    (of_node : actor_of line.choice ≡ actor_at n) (sure : HasGap (actor_at n) l g → ⊥) where
   -- the node, as an actor
   abbrev x : Actor
   x = actor_at n
@@ -289,17 +368,40 @@ module _ (sc : Scenario) (l : Logs) (n : Node) (g : Cursors) (s : State) (line :
   abbrev then : State
   then = (step sc line.choice s).after
 
+  -- it is the node's own next line
+  has : HasOwnLine l x g
+  has = record { line = line; next = next; own = of_node }
+
+  -- lines of a choice of the node that come next are its own, and this one is
+  come_own : (k : Cursors) (by : Tellers) (m : LogLine) (other : Option LogLine) → cursor_of x k ≡ cursor_of x g → actor_of m.choice ≡ x
+      → ComeBy by sc.version l k m other → (m ≡ line) × (advanced_by by k ≡ advanced x k)
+  come_own k (One y) m None same own come =
+      let is = are y (cursor y k) m come.next in
+      let here : y ≡ x = elim is.actor [
+        | inl e ↦ sym e ∙ own
+        | inr client ↦ absurd (no_client n (sym client ∙ own))
+      ] in
+      let there : IsNextLine x l k line = subst (λ (p : Cursor). slice_get (log_of x l) p.lines ≡ Some line) (sym same) next in
+      (same_line x l k m line (subst (λ (z : Actor). IsNextLine z l k m) here come.next) there, ap (λ (z : Actor). advanced z k) here)
+  come_own k (One y) m (Some other) same own come = absurd come
+  come_own k (Both j) m None same own come = absurd come
+  come_own k (Both j) m (Some other) same own come =
+      let is = are C (cursor C k) m come.client in
+      absurd (elim is.actor [
+        | inl e ↦ no_client n (sym e ∙ own)
+        | inr e ↦ no_client n (sym e ∙ own)
+      ])
+
   -- where the cursor of the node is the same, a step of the node is that of the line, which agrees with it
-  own_is : (k : Cursors) (o : Observation) (to : Cursors) → cursor_of x k ≡ cursor_of x g → actor_of o.entry.choice ≡ x → Leads (length sc.programs) l k o to
+  own_is : (k : Cursors) (o : Observation) (to : Cursors) → cursor_of x k ≡ cursor_of x g → actor_of o.entry.choice ≡ x → Leads sc l k o to
       → (o.entry.choice ≡ line.choice) × Agrees line o × (to ≡ advanced x k)
   own_is k o to same own leads = elim leads [
     | inl by ↦
-        let here : slice_get (log_of x l) (cursor x k) ≡ Some line =
-        subst (λ (p : Cursor). slice_get (log_of x l) p.lines ≡ Some line) (sym same) next in
-        let one = same_line l k o x line own here by.0 in (
-          sym by.0.choice ∙ ap (λ (m : LogLine). m.choice) (sym one),
-          subst (λ (m : LogLine). Agrees m o) (sym one) by.0.agrees,
-          by.1 ∙ ap (λ (y : Actor). advanced y k) own,
+        let lines = by.0.lines in
+        let one = come_own k lines.by lines.line lines.other same (ap actor_of by.0.choice ∙ own) by.0.next in (
+          sym by.0.choice ∙ ap (λ (m : LogLine). m.choice) one.0,
+          subst (λ (m : LogLine). Agrees m o) one.0 by.0.agree.0,
+          by.1 ∙ one.1,
         )
     | inr by ↦
         let gap : HasGap x l k = subst (λ (y : Actor). HasGap y l k) own by.0.gap in
@@ -310,7 +412,7 @@ module _ (sc : Scenario) (l : Logs) (n : Node) (g : Cursors) (s : State) (line :
   begins_own : (cs : List Choice) (to : Cursors) → HasOwn sc l n g s cs to → BeginsBy sc l line.choice g s cs to x
   begins_own cs to h =
       let there = play sc s h.before in
-      let is = own_is h.there (observation_at sc there h.own) h.next (way_stays sc l n g s h.before h.there h.others h.way) h.is h.leads in
+      let is = own_is h.there (observation_at sc there h.own) h.next (way_stays sc l n g s h.before h.there has h.others h.way) h.is h.leads in
       let fits : Agrees line (observation_at sc there line.choice) = subst (λ (c : Choice). Agrees line (observation_at sc there c)) is.0 is.1 in
       let same : (step sc h.own there).after ≡ play sc then h.before =
       ap (λ (c : Choice). (step sc c there).after) is.0 ∙ sym (comes.after h.before h.others fits) in
@@ -322,7 +424,7 @@ module _ (sc : Scenario) (l : Logs) (n : Node) (g : Cursors) (s : State) (line :
         end = to;
         few = omega (arith, h.many, length-append h.before h.rest);
         way = way_append sc l (advanced x g) then h.before h.rest (advanced x h.there) to
-            (way_beside sc l n g s then h.before h.there h.others (comes.unseen h.before h.others) h.way) rest;
+            (way_beside sc l n g s then h.before h.there has h.others (comes.unseen h.before h.others) h.way) rest;
         further = no_further_self to;
         whole = λ end. end;
         ends = λ end.
@@ -332,14 +434,14 @@ module _ (sc : Scenario) (l : Logs) (n : Node) (g : Cursors) (s : State) (line :
   -- a way that has none goes on behind the line, which is one more
   begins_more : (cs : List Choice) (to : Cursors) → AreOfOthers n cs → IsWay sc l g s cs to → BeginsBy sc l line.choice g s cs to x
   begins_more cs to others way =
-      let lines = ap (λ (p : Cursor). p.lines) (way_stays sc l n g s cs to others way) in
+      let lines = ap (λ (p : Cursor). p.lines) (way_stays sc l n g s cs to has others way) in
       let part : AreMatched l to → ⊥ = λ end.
       absurd (omega (arith, matched_of x l to end, lines, slice_get_within (log_of x l) (cursor x g) line next)) in
       record {
         choices = cs;
         end = advanced x to;
         few = omega arith;
-        way = way_beside sc l n g s then cs to others (comes.unseen cs others) way;
+        way = way_beside sc l n g s then cs to has others (comes.unseen cs others) way;
         further = no_further_advanced n to;
         whole = λ end. absurd (part end);
         ends = λ end. absurd (part end);
@@ -368,7 +470,9 @@ alone_first sc n s line locks own tells agrees = elim tells [
 ]
 
 -- so each way has one that begins by it and leads as far
-pub begins_by : (sc : Scenario) (l : Logs) (n : Node) (g : Cursors) (s : State) (line : LogLine) → LocksRise (facing n s).me.locks
-    → actor_of line.choice ≡ actor_at n → MayBeAlone n l g line → Agrees line (observation_at sc s line.choice) → (cs : List Choice) (to : Cursors)
-    → IsWay sc l g s cs to → BeginsBy sc l line.choice g s cs to (actor_at n)
-begins_by sc l n g s line locks own may agrees = begins sc l n g s line (alone_first sc n s line locks own may.tells agrees) may.next may.whole
+pub begins_by : (sc : Scenario) (l : Logs) (n : Node) (g : Cursors) (s : State) (line : LogLine)
+    → ((x : Actor) → AreLinesOf (length sc.programs) x (log_of x l)) → LocksRise (facing n s).me.locks → MayBeAlone n l g line
+    → Agrees line (observation_at sc s line.choice) → (cs : List Choice) (to : Cursors) → IsWay sc l g s cs to
+    → BeginsBy sc l line.choice g s cs to (actor_at n)
+begins_by sc l n g s line are locks may agrees =
+    begins sc l n g s line (alone_first sc n s line locks may.own may.tells agrees) are may.next may.own may.whole

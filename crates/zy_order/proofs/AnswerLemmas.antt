@@ -12,13 +12,13 @@ use Rattle.zy_order.specs.declared.plan.Plan.{Plan}
 use Rattle.zy_order.specs.declared.answer.OrderAnswer.{OrderAnswer}
 use Rattle.zy_order.specs.declared.answer.OrderAnswer.TheVariants.{Found, OtherEnd, Nowhere, Spent}
 use Rattle.zy_order.specs.Gaps.{gaps_of, Completes}
-use Rattle.zy_order.specs.Orders.{lines_of, all_of, choices_of, IsPrefixOrder}
-use Rattle.zy_order.specs.Ways.{log_of, cursor, at_start, IsNoFurther, AreMatched, IsWay, AreLogs}
+use Rattle.zy_order.specs.Orders.{ToldStep, lines_of, all_of, lines_told, choices_told, Fits, IsPrefixOrder}
+use Rattle.zy_order.specs.Ways.{log_of, cursor, at_start, IsNoFurther, AreLinesOf, AreMatched, IsWay, AreLogs}
 use Rattle.zy_order.specs.Answers.{MatchesAll, MatchesWithEnd, MatchesPrefixes, MatchesFurthest, HasOtherEnd, IsNowhere, IsAnswer}
-use Rattle.zy_order.specs.Reaches.{AnswersFor}
+use Rattle.zy_order.specs.Reaches.{AnswersFor, IsPlan}
 use Rattle.zy_order.proofs.GapLemmas.{ahead_start, ahead_whole}
 use Rattle.zy_order.proofs.WayLemmas.{HaveGaps, within_start}
-use Rattle.zy_order.proofs.OrderLemmas.{IsAhead, order_of, way_of}
+use Rattle.zy_order.proofs.OrderLemmas.{IsAhead, logs_in, order_of, way_of}
 use Rattle.zy_order.proofs.LineLemmas.{log_is}
 
 -- ---- one log, from its start
@@ -53,10 +53,15 @@ lines_with B taken = refl
 
 -- ---- all three
 
-module _ (h : History) (lines : List LogLine) (gaps : Gaps) (l : Logs) (is : AreLogs lines gaps l) (many : HaveGaps l) where
+module _ (h : History) (lines : List LogLine) (gaps : Gaps) (l : Logs) (is : AreLogs lines gaps l) (many : HaveGaps l)
+    (are : (x : Actor) → AreLinesOf (length h.scenario.programs) x (log_of x l)) where
   -- the numbers of a scenario's transactions are below this
   abbrev count : ℕ
   count = length h.scenario.programs
+
+  -- the logs are the lines of their actors
+  logs_are : logs_in l ≡ (λ x. lines_of x lines)
+  logs_are = λ i x. log_is x lines gaps l is i
 
   -- completions are of the lines and gaps where they are of the logs
   of_lines : (x : Actor) (k : ℕ) (order : List LogLine) → Completes count x k (log_of x l) (gaps_of x l.gaps) order
@@ -74,13 +79,14 @@ module _ (h : History) (lines : List LogLine) (gaps : Gaps) (l : Logs) (is : Are
 
   -- the choices of a way are those of an order of prefixes, which takes as many lines as the way matches
   order_by : (cs : List Choice) (to : Cursors) → IsWay h.scenario l at_start h.state cs to
-      → (order : List LogLine) × IsPrefixOrder h.scenario h.state lines gaps (λ x. cursor x to) order × (cs ≡ choices_of order)
+      → (order : List ToldStep) × IsPrefixOrder h.scenario h.state lines gaps (λ x. cursor x to) order × (cs ≡ choices_told order)
   order_by cs to way =
-      let found = order_of h.scenario l at_start to h.state cs many (within_start l) way in (
+      let found = order_of h.scenario l at_start to h.state cs many (within_start l) are way in
+      let told = lines_told found.0 in (
         found.0,
         record {
-          merges = λ x. of_lines x (cursor x to) (lines_of x found.0) (to_whole count x l to (lines_of x found.0) (found.1.ahead x));
-          fits = found.1.fits;
+          merges = λ x. of_lines x (cursor x to) (lines_of x told) (to_whole count x l to (lines_of x told) (found.1.ahead x));
+          fits = subst (λ (log : Actor → List LogLine). Fits h.scenario log h.state found.0) logs_are found.1.fits;
         },
         found.1.choices,
       )
@@ -96,10 +102,11 @@ module _ (h : History) (lines : List LogLine) (gaps : Gaps) (l : Logs) (is : Are
   all_taken to end B = end.of_b ∙ ap (λ (ls : List LogLine). length ls) is.of_b
 
   -- an order of prefixes that takes other numbers of lines, which are the same
-  taken_same : (taken others : Actor → ℕ) (order : List LogLine) → ((x : Actor) → taken x ≡ others x)
+  taken_same : (taken others : Actor → ℕ) (order : List ToldStep) → ((x : Actor) → taken x ≡ others x)
       → IsPrefixOrder h.scenario h.state lines gaps taken order → IsPrefixOrder h.scenario h.state lines gaps others order
   taken_same taken others order same o = record {
-    merges = λ x. subst (λ (k : ℕ). Completes count x k (lines_of x lines) (gaps_of x gaps) (lines_of x order)) (same x) (o.merges x);
+    merges = λ x.
+        subst (λ (k : ℕ). Completes count x k (lines_of x lines) (gaps_of x gaps) (lines_of x (lines_told order))) (same x) (o.merges x);
     fits = o.fits;
   }
 
@@ -110,19 +117,21 @@ module _ (h : History) (lines : List LogLine) (gaps : Gaps) (l : Logs) (is : Are
       (found.0, taken_same (λ x. cursor x to) (all_of lines) found.0 (all_taken to end) found.1, found.2)
 
   -- the choices of an order of prefixes are a way, which matches as many lines as the order takes
-  way_by : (taken : Actor → ℕ) (order : List LogLine) → IsPrefixOrder h.scenario h.state lines gaps taken order
-      → (end : Cursors) × IsWay h.scenario l at_start h.state (choices_of order) end × ((x : Actor) → cursor x end ≡ taken x)
+  way_by : (taken : Actor → ℕ) (order : List ToldStep) → IsPrefixOrder h.scenario h.state lines gaps taken order
+      → (end : Cursors) × IsWay h.scenario l at_start h.state (choices_told order) end × ((x : Actor) → cursor x end ≡ taken x)
   way_by taken order o =
       let to = cursors_with taken in
-      let ahead : (x : Actor) → IsAhead count l at_start to x (lines_of x order) = λ x.
-      from_start count x l to (lines_of x order)
-      (of_logs x (cursor x to) (lines_of x order)
-      (subst (λ (k : ℕ). Completes count x k (lines_of x lines) (gaps_of x gaps) (lines_of x order)) (sym (lines_with x taken)) (o.merges x))) in
-      let found = way_of h.scenario l at_start to h.state order ahead o.fits in
+      let told = lines_told order in
+      let ahead : (x : Actor) → IsAhead count l at_start to x (lines_of x told) = λ x.
+      from_start count x l to (lines_of x told)
+      (of_logs x (cursor x to) (lines_of x told)
+      (subst (λ (k : ℕ). Completes count x k (lines_of x lines) (gaps_of x gaps) (lines_of x told)) (sym (lines_with x taken)) (o.merges x))) in
+      let fits = subst (λ (log : Actor → List LogLine). Fits h.scenario log h.state order) (sym logs_are) o.fits in
+      let found = way_of h.scenario l at_start to h.state order are ahead fits in
       (found.end, found.way, λ x. found.lines x ∙ lines_with x taken)
 
   -- an order of all lines is a way to the end of the logs
-  end_by : (order : List LogLine) (end : Cursors) → ((x : Actor) → cursor x end ≡ all_of lines x) → AreMatched l end
+  end_by : (order : List ToldStep) (end : Cursors) → ((x : Actor) → cursor x end ≡ all_of lines x) → AreMatched l end
   end_by order end all = record {
     of_c = all C ∙ ap (λ (ls : List LogLine). length ls) (sym is.of_c);
     of_a = all A ∙ ap (λ (ls : List LogLine). length ls) (sym is.of_a);
@@ -141,11 +150,11 @@ module _ (h : History) (lines : List LogLine) (gaps : Gaps) (l : Logs) (is : Are
           prefix = found.1;
           nodes = λ others other o.
               let by = way_by others other o in
-              let no_further = most (choices_of other) by.0 by.1 in
+              let no_further = most (choices_told other) by.0 by.1 in
               omega (arith, no_further.nodes, by.2 A, by.2 B);
           client = λ others other o e.
               let by = way_by others other o in
-              let no_further = most (choices_of other) by.0 by.1 in
+              let no_further = most (choices_told other) by.0 by.1 in
               omega (arith, no_further.client (omega (arith, e, by.2 A, by.2 B)), by.2 C);
         },
         found.2,
@@ -153,23 +162,23 @@ module _ (h : History) (lines : List LogLine) (gaps : Gaps) (l : Logs) (is : Are
 
 -- so each answer that holds of the ways of a plan holds of the orders of its logs
 pub answers : (p : Plan) (h : History) (lines : List LogLine) (gaps : Gaps) (a : OrderAnswer) → p.start ≡ h → AreLogs lines gaps p.logs
-    → HaveGaps p.logs → AnswersFor p a → IsAnswer h lines gaps p.end a
-answers p h lines gaps (Found v) same is many x =
+    → IsPlan p → AnswersFor p a → IsAnswer h lines gaps p.end a
+answers p h lines gaps (Found v) same is plan x =
     subst (λ (k : History). MatchesWithEnd k lines gaps p.end v.items) same
-    (record { all = matches_all p.start lines gaps p.logs is many v.items x.0 x.1 x.2.matched; end = x.2.end })
-answers p h lines gaps (OtherEnd v) same is many x =
+    (record { all = matches_all p.start lines gaps p.logs is plan.gaps plan.lines v.items x.0 x.1 x.2.matched; end = x.2.end })
+answers p h lines gaps (OtherEnd v) same is plan x =
     subst (λ (k : History). HasOtherEnd k lines gaps p.end v.items) same (record {
-      all = matches_all p.start lines gaps p.logs is many v.items x.0 x.1.way x.1.matched;
+      all = matches_all p.start lines gaps p.logs is plan.gaps plan.lines v.items x.0 x.1.way x.1.matched;
       none = λ order o.
-          let by = way_by p.start lines gaps p.logs is many (all_of lines) order o in
-          x.1.none (choices_of order) by.0 by.1 (end_by p.start lines gaps p.logs is many order by.0 by.2);
+          let by = way_by p.start lines gaps p.logs is plan.gaps plan.lines (all_of lines) order o in
+          x.1.none (choices_told order) by.0 by.1 (end_by p.start lines gaps p.logs is plan.gaps plan.lines order by.0 by.2);
     })
-answers p h lines gaps (Nowhere v) same is many x =
+answers p h lines gaps (Nowhere v) same is plan x =
     subst (λ (k : History). IsNowhere k lines gaps v.items) same (record {
       none = λ order o.
-          let by = way_by p.start lines gaps p.logs is many (all_of lines) order o in
-          x.1.none (choices_of order) by.0 by.1 (end_by p.start lines gaps p.logs is many order by.0 by.2);
-      furthest = matches_furthest p.start lines gaps p.logs is many v.items x.0 x.1.way x.1.most;
+          let by = way_by p.start lines gaps p.logs is plan.gaps plan.lines (all_of lines) order o in
+          x.1.none (choices_told order) by.0 by.1 (end_by p.start lines gaps p.logs is plan.gaps plan.lines order by.0 by.2);
+      furthest = matches_furthest p.start lines gaps p.logs is plan.gaps plan.lines v.items x.0 x.1.way x.1.most;
     })
-answers p h lines gaps (Spent v) same is many x =
-    subst (λ (k : History). MatchesPrefixes k lines gaps v.items) same (matches_prefixes p.start lines gaps p.logs is many v.items x.0 x.1)
+answers p h lines gaps (Spent v) same is plan x =
+    subst (λ (k : History). MatchesPrefixes k lines gaps v.items) same (matches_prefixes p.start lines gaps p.logs is plan.gaps plan.lines v.items x.0 x.1)

@@ -221,6 +221,31 @@ next_line count x log gaps g end k n (m ∷ behind) line left lines up gaps_left
   };
 }
 
+-- lines complete a log with more room in its first gap, too
+more_room : (count n : ℕ) (x : Actor) (k : ℕ) (log : List LogLine) (gaps : List ℕ) (lines : List LogLine) → Completes count x k log (n ∷ gaps) lines
+    → Completes count x k log (suc n ∷ gaps) lines
+more_room count n x zero log gaps lines c = record { few = omega (arith, c.few); missing = c.missing }
+more_room count n x (suc k) [] gaps lines c = absurd c
+more_room count n x (suc k) (l ∷ log) gaps lines c = record {
+  filled = c.filled;
+  rest = c.rest;
+  is = c.is;
+  gap = record { few = omega (arith, c.gap.few); missing = c.gap.missing };
+  goes_on = c.goes_on;
+}
+
+-- so what completes it behind a missing step completes it without that step
+pub ahead_less : (count : ℕ) (x : Actor) (log : List LogLine) (gaps : List ℕ) (g : Cursor) (end : ℕ) (lines : List LogLine)
+    → Ahead count x log gaps (filled g) end lines → Ahead count x log gaps g end lines
+ahead_less count x log gaps g end lines a = record {
+  k = a.k;
+  n = suc a.n;
+  behind = a.behind;
+  up_to = a.up_to;
+  gaps_left = a.gaps_left ∙ ap (λ m. m ∷ a.behind) (omega arith);
+  completes = more_room count a.n x a.k (drop g.lines log) a.behind lines a.completes;
+}
+
 -- the gap where a cursor is, by what is left of the gaps
 gap_left : (gaps : List ℕ) (g : Cursor) (n : ℕ) (behind : List ℕ) → drop g.lines gaps ≡ n ∷ behind → gap_at gaps g ≡ n
 gap_left gaps g n behind e = get_or_from_slice_get gaps g.lines n 0 (at_drop gaps g.lines n behind e)

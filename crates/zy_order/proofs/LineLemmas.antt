@@ -1,19 +1,20 @@
 -- The lines of the logs: how many there are, and of which choices.
-use Rattle.std.proofs.Common.{◌≡◌, ◌∙◌, ℕ, zero, suc, ◌+◌, List, [], ◌∷◌, length, refl, sym, ap, subst, arith, Bool, true, false}
+use Rattle.std.proofs.Common.{◌≡◌, ◌∙◌, ℕ, zero, suc, ◌+◌, inl, inr, List, [], ◌∷◌, length, refl, sym, ap, subst, arith, Bool, true, false}
 use Rattle.std.specs.Prelude.{if◌then◌else◌}
 use Rattle.zy_isa.specs.declared.node.Actor.{Actor}
 use Rattle.zy_isa.specs.declared.node.Actor.TheVariants.{C, A, B}
-use Rattle.zy_isa.specs.Choices.{actor_of, names_below}
+use Rattle.zy_isa.specs.Choices.{names_below}
 use Rattle.zy_isa.specs.Scenario.{AreNamed}
 use Rattle.zy_machine.specs.Histories.{History, IsReplay}
 use Rattle.zy_threads.specs.Turns.{is_c, is_a, is_b}
+use Rattle.zy_logs.specs.Logs.{IsInALog, AreInLogs}
 use Rattle.zy_logs.specs.declared.log_line.LogLine.{LogLine}
 use Rattle.zy_order.specs.declared.logs.Logs.{Logs}
 use Rattle.zy_order.specs.declared.plan.Plan.{Plan}
 use Rattle.zy_order.specs.declared.gaps.Gaps.{Gaps}
 use Rattle.zy_search.specs.Choices.{considered}
 use Rattle.zy_order.specs.Orders.{lines_of, choices_of}
-use Rattle.zy_order.specs.Ways.{log_of, line_count, AreLinesOf, AreLogs}
+use Rattle.zy_order.specs.Ways.{log_of, line_count, IsLineOf, AreLinesOf, AreLogs}
 use Rattle.zy_order.specs.Answers.{IsInput}
 use Rattle.zy_order.specs.Gaps.{gaps_of, gap_count}
 use Rattle.zy_order.specs.Reaches.{IsPlan, all_kinds}
@@ -36,7 +37,7 @@ one_of B l m n k e = omega arith
 pub lines_lengths : (lines : List LogLine) → length (lines_of C lines) + (length (lines_of A lines) + length (lines_of B lines)) ≡ length lines
 lines_lengths [] = refl
 lines_lengths (line ∷ lines) =
-    let x = actor_of line.choice in
+    let x = line.log in
     let l : length (lines_of C (line ∷ lines)) ≡ (if is_c x then length (lines_of C lines) + 1 else length (lines_of C lines))
     = length_if (is_c x) line (lines_of C lines) in
     let m : length (lines_of A (line ∷ lines)) ≡ (if is_a x then length (lines_of A lines) + 1 else length (lines_of A lines))
@@ -70,23 +71,28 @@ same_actor B C e = absurd (cc e)
 same_actor B A e = absurd (cc e)
 same_actor B B e = refl
 
--- an actor has one line more, if it is of the actor and names a transaction that is there
-lines_more : (count : ℕ) (x : Actor) (line : LogLine) (lines : List LogLine) (b : Bool)
-    → (b ≡ true → (actor_of line.choice ≡ x) × (names_below count line.choice ≡ true)) → AreLinesOf count x lines
+-- an actor has one line more, if it is of its log
+lines_more : (count : ℕ) (x : Actor) (line : LogLine) (lines : List LogLine) (b : Bool) → (b ≡ true → IsLineOf count x line) → AreLinesOf count x lines
     → AreLinesOf count x (if b then line ∷ lines else lines)
-lines_more count x line lines true is rest zero other e =
-    let same : line ≡ other = cc e in
-    subst (λ (m : LogLine). (actor_of m.choice ≡ x) × (names_below count m.choice ≡ true)) same (is refl)
+lines_more count x line lines true is rest zero other e = let same : line ≡ other = cc e in subst (IsLineOf count x) same (is refl)
 lines_more count x line lines true is rest (suc i) other e = rest i other e
 lines_more count x line lines false is rest i other e = rest i other e
 
--- the lines of an actor are of its choices
-lines_are_of : (count : ℕ) (x : Actor) (lines : List LogLine) → AreNamed count (choices_of lines) → AreLinesOf count x (lines_of x lines)
-lines_are_of count x [] named = λ i line e. absurd (cc e)
-lines_are_of count x (line ∷ lines) named =
+-- a line that stands in a log is of it
+stands_of : (count : ℕ) (x : Actor) (line : LogLine) → IsInALog line → names_below count line.choice ≡ true → line.log ≡ x → IsLineOf count x line
+stands_of count x line in_log named log = record {
+  log = log;
+  actor = elim in_log [ inl own ↦ inl (own ∙ log) | inr client ↦ inr client ];
+  named = named;
+}
+
+-- the lines of an actor are of its log
+lines_are_of : (count : ℕ) (x : Actor) (lines : List LogLine) → AreInLogs lines → AreNamed count (choices_of lines) → AreLinesOf count x (lines_of x lines)
+lines_are_of count x [] in_logs named = λ i line e. absurd (cc e)
+lines_are_of count x (line ∷ lines) in_logs named =
     subst (AreLinesOf count x) (sym (lines_cons x line lines))
-    (lines_more count x line (lines_of x lines) (is_same x (actor_of line.choice)) (λ e. (same_actor x (actor_of line.choice) e, named.0))
-    (lines_are_of count x lines named.1))
+    (lines_more count x line (lines_of x lines) (is_same x line.log) (λ e. stands_of count x line in_logs.0 named.0 (same_actor x line.log e))
+    (lines_are_of count x lines in_logs.1 named.1))
 
 -- a plan has logs of the lines, and its history has room for all steps
 pub plan_is : (p : Plan) (h : History) (lines : List LogLine) (gaps : Gaps) → p.start ≡ h → AreLogs lines gaps p.logs → IsReplay h → IsInput h lines gaps
@@ -97,7 +103,7 @@ plan_is p h lines gaps same is replay input choices =
     let named = subst (λ (k : History). AreNamed (length k.scenario.programs) (choices_of lines)) (sym same) input.named in
     record {
       replay = subst IsReplay (sym same) replay;
-      lines = λ x. subst (AreLinesOf count x) (sym (log_is x lines gaps p.logs is)) (lines_are_of count x lines named);
+      lines = λ x. subst (AreLinesOf count x) (sym (log_is x lines gaps p.logs is)) (lines_are_of count x lines input.logs named);
       gaps = λ x.
           ap (λ (g : Gaps). length (gaps_of x g)) is.of_gaps ∙ (input.many x
           ∙ ap (λ (ls : List LogLine). length ls + 1) (sym (log_is x lines gaps p.logs is)));

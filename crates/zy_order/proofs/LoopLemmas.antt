@@ -1,5 +1,5 @@
 -- One path after another is followed.
-use Rattle.std.proofs.Common.{◌≡◌, ◌∙◌, ℕ, zero, suc, slice_get, ◌<◌, ◌≤◌, ◌⊎◌, inl, inr, List, [], ◌∷◌, ◌++◌, length, refl, ◌+◌, Bool, ◌&&◌, sym, ap, subst, arith, true, get_or}
+use Rattle.std.proofs.Common.{◌≡◌, ◌∙◌, ℕ, zero, suc, ◌<◌, ◌≤◌, ◌⊎◌, inl, inr, List, [], ◌∷◌, ◌++◌, length, refl, ◌+◌, Bool, ◌&&◌, sym, ap, subst, arith, true, get_or}
 use Rattle.std.proofs.Common.{Option, None, Some, Result, Ok, Err, OnOk, IfOk}
 use Rattle.std.specs.Prelude.{Contains, IsSome, option_to_list, sum}
 use Rattle.std.specs.List.{All}
@@ -11,10 +11,14 @@ use Rattle.zy_isa.specs.declared.choice.Choice.{Choice}
 use Rattle.zy_isa.specs.declared.choice.Choice.TheVariants.{Start, Begin, Kill, Run, Take, Finish, Push}
 use Rattle.zy_isa.specs.declared.node.Actor.{Actor}
 use Rattle.zy_isa.specs.declared.node.Node.{Node}
+use Rattle.zy_isa.specs.declared.node.Node.TheVariants as node
 use Rattle.zy_isa.specs.declared.node.Actor.TheVariants.{C, A, B}
 use Rattle.zy_isa.specs.Choices.{actor_of, actor_at, names_below}
+use Rattle.zy_table.specs.declared.observation.Observation.{Observation}
 use Rattle.zy_table.specs.Play.{step}
-use Rattle.zy_logs.specs.Agrees.{Agrees}
+use Rattle.zy_isa.specs.declared.version.Version.{Version}
+use Rattle.zy_patterns.specs.declared.patterns.OutcomePattern.{OutcomePattern}
+use Rattle.zy_patterns.specs.declared.patterns.OutcomePattern.TheVariants as pattern
 use Rattle.zy_logs.specs.declared.log_line.LogLine.{LogLine}
 use Rattle.zy_search.specs.Searches.{reached}
 use Rattle.zy_machine.specs.Histories.{History}
@@ -34,12 +38,17 @@ use Rattle.zy_order.specs.declared.line.Met.{Met}
 use Rattle.zy_order.specs.declared.line.Met.TheVariants as met
 use Rattle.zy_order.specs.declared.gaps.Gaps.{Gaps}
 use Rattle.zy_order.specs.Gaps.{gaps_of, gap_count}
-use Rattle.zy_order.specs.Ways.{log_of, cursor_of, cursor, at_start, cursors_in, gap_at, advanced, with_missing, HasGap}
-use Rattle.zy_order.specs.Reaches.{all_kinds, cursors_at, IsReached, Extends, IsMet, AreMet, IsTried, AreTried, MayBeAlone, LeadsOn, FollowsAll, FollowsAlone}
-use Rattle.zy_order.specs.Reaches.{IsCompleteAt, IsFollowed, AreFollowedBut, HasEachActor, IsMetBy}
+use Rattle.zy_order.specs.declared.tellers.StepLines.{StepLines}
+use Rattle.zy_order.specs.declared.tellers.Tellers.{Tellers}
+use Rattle.zy_order.specs.declared.tellers.Tellers.TheVariants.{One, Both}
+use Rattle.zy_order.specs.Twins.{HasTwin, comes_once}
+use Rattle.zy_order.specs.Orders.{Agree}
+use Rattle.zy_order.specs.Ways.{log_of, cursor_of, cursor, at_start, cursors_in, gap_at, advanced_by, with_missing, ComeBy, ComeNext, TellNext, HasGap}
+use Rattle.zy_order.specs.Reaches.{all_kinds, cursors_at, is_nothing, alone_at, IsReached, Extends, IsMet, IsMetWith, AreMet, IsTried, AreTried, AgreeAt, MayBeAlone, LeadsOn}
+use Rattle.zy_order.specs.Reaches.{FollowsAll, FollowsAlone, IsCompleteAt, IsFollowed, AreFollowedBut, HasEachActor, IsMetBy}
 use Rattle.zy_order.specs.Reaches.{Adds, Follows, IsPlan, IsTaken, IsWayOf, IsKnown, observation_by, state_by}
-use Rattle.zy_order.proofs.WayLemmas.{same_line}
-use Rattle.zy_order.proofs.ReachLemmas.{extends_same, complete_before, tried_on, followed_on}
+use Rattle.zy_order.proofs.WayLemmas.{no_client, same_lines}
+use Rattle.zy_order.proofs.ReachLemmas.{extends_same, complete_before, met_on, tried_on, followed_on}
 
 -- ---- what is to do
 
@@ -182,55 +191,116 @@ followed_next p s new at is adds done = λ i there.
 -- ---- the three actors
 
 -- where the lines of three actors are met, and these are all, all are
-pub all_met : (h : History) (l : Logs) (r : Reached) (at : ℕ) (t : Turns) → HasEachActor t → IsMet h l r at t.first → IsMet h l r at t.second
-    → IsMet h l r at t.third
+pub all_met : (h : History) (l : Logs) (r : Reached) (at : ℕ) (t : Turns) → HasEachActor t → IsMetWith h l r at t.first → IsMetWith h l r at t.second
+    → IsMetWith h l r at t.third
     → AreMet h l r at
 all_met h l r at t all first second third = λ x.
     elim (all x) [
-      | inl e ↦ subst (IsMet h l r at) (sym e) first
+      | inl e ↦ subst (IsMetWith h l r at) (sym e) first
       | inr other ↦
           elim other [
-            | inl e ↦ subst (IsMet h l r at) (sym e) second
-            | inr e ↦ subst (IsMet h l r at) (sym e) third
+            | inl e ↦ subst (IsMetWith h l r at) (sym e) second
+            | inr e ↦ subst (IsMetWith h l r at) (sym e) third
           ]
     ]
 
-module _ (h : History) (l : Logs) (r : Reached) (i : ℕ) (x : Actor) (line : LogLine) (next : slice_get (log_of x l) (cursor x (cursors_at r i)) ≡ Some line) where
-  -- a next line that leads on is met
-  met_leads : LeadsOn h r i x line → IsMet h l r i x
-  met_leads leads = λ c own fits.
-      let one = same_line l (cursors_at r i) (observation_by h r i c) x line own next fits in
-      let same : line.choice ≡ c = ap (λ (m : LogLine). m.choice) one ∙ fits.choice in
-      subst (λ (d : Choice). IsKnown h r (advanced x (cursors_at r i)) (state_by h r i d)) same leads.known
+module _ (h : History) (l : Logs) (r : Reached) (i : ℕ) (lines : StepLines) (next : ComeNext h.scenario.version l (cursors_at r i) lines) where
+  -- what comes next of the same logs is these lines
+  tell_same : (o : Observation) (tell : TellNext h.scenario.version l (cursors_at r i) o) → tell.lines.by ≡ lines.by
+      → (lines.line ≡ tell.lines.line) × (lines.other ≡ tell.lines.other)
+  tell_same o tell same =
+      let m = tell.lines in
+      same_lines h.scenario.version l (cursors_at r i) lines.by lines.line m.line lines.other m.other next
+      (subst (λ (by : Tellers). ComeBy by h.scenario.version l (cursors_at r i) m.line m.other) same tell.next)
 
-  -- so is one that does not fit
-  met_unfit : (Agrees line (observation_by h r i line.choice) → ⊥) → IsMet h l r i x
-  met_unfit unfit = λ c own fits.
-      let one = same_line l (cursors_at r i) (observation_by h r i c) x line own next fits in
-      let same : line.choice ≡ c = ap (λ (m : LogLine). m.choice) one ∙ fits.choice in
-      let agrees = subst (λ (m : LogLine). Agrees m (observation_by h r i c)) (sym one) fits.agrees in
-      absurd (unfit (subst (λ (d : Choice). Agrees line (observation_by h r i d)) (sym same) agrees))
+  -- lines that come next and lead on are met
+  met_leads : LeadsOn h r i lines → IsMet h l r i lines.by
+  met_leads leads = λ c tell by.
+      let one = tell_same (observation_by h r i c) tell by in
+      let same : lines.line.choice ≡ c = ap (λ (m : LogLine). m.choice) one.0 ∙ tell.choice in
+      subst (λ (d : Choice). IsKnown h r (advanced_by lines.by (cursors_at r i)) (state_by h r i d)) same leads.known
 
--- the next line where a path leads is met, after the search has gone on, if it leads on then or does not fit
-pub line_met : (h : History) (l : Logs) (r new : Reached) (i : ℕ) (x : Actor) (line : LogLine) (g : Cursors) → g ≡ cursors_at r i → Extends r new
-    → i < length r.visited → slice_get (log_of x l) (cursor x g) ≡ Some line → LeadsOn h new i x line ⊎ (Agrees line (observation_by h new i line.choice) → ⊥)
-    → IsMet h l new i x
-line_met h l r new i x line g is e lt next came =
-    let there = subst (λ (f : Cursors). slice_get (log_of x l) (cursor x f) ≡ Some line) (is ∙ sym (e.cursors i lt)) next in
+  -- so are those that do not fit
+  met_unfit : (AgreeAt h r i lines → ⊥) → IsMet h l r i lines.by
+  met_unfit unfit = λ c tell by.
+      let o = observation_by h r i c in
+      let one = tell_same o tell by in
+      let same : lines.line.choice ≡ c = ap (λ (m : LogLine). m.choice) one.0 ∙ tell.choice in
+      let agree : Agree lines.line lines.other o = subst (λ (m : Option LogLine). Agree lines.line m o) (sym one.1)
+      (subst (λ (m : LogLine). Agree m tell.lines.other o) (sym one.0) tell.agree) in
+      absurd (unfit (subst (λ (d : Choice). Agree lines.line lines.other (observation_by h r i d)) (sym same) agree))
+
+-- lines that come next where a path leads are met, after the search has gone on, if they lead on then or do not fit
+pub lines_met : (h : History) (l : Logs) (r new : Reached) (i : ℕ) (lines : StepLines) → Extends r new → i < length r.visited
+    → ComeNext h.scenario.version l (cursors_at r i) lines → LeadsOn h new i lines ⊎ (AgreeAt h new i lines → ⊥) → IsMet h l new i lines.by
+lines_met h l r new i lines e lt next came =
+    let there = subst (λ (g : Cursors). ComeNext h.scenario.version l g lines) (sym (e.cursors i lt)) next in
     elim came [
-      | inl leads ↦ met_leads h l new i x line there leads
-      | inr unfit ↦ met_unfit h l new i x line there unfit
+      | inl leads ↦ met_leads h l new i lines there leads
+      | inr unfit ↦ met_unfit h l new i lines there unfit
     ]
+
+-- where no lines of some logs come next, they are met
+pub none_met : (h : History) (l : Logs) (r : Reached) (i : ℕ) (by : Tellers)
+    → ((lines : StepLines) → lines.by ≡ by → ComeNext h.scenario.version l (cursors_at r i) lines → ⊥) → IsMet h l r i by
+none_met h l r i by none = λ c tell same. absurd (none tell.lines same tell.next)
+
+-- nodes that are one actor are the same
+same_node : (n m : Node) → actor_at n ≡ actor_at m → n ≡ m
+same_node node.A node.A e = refl
+same_node node.A node.B e = cc e
+same_node node.B node.A e = cc e
+same_node node.B node.B e = refl
+
+-- the client's next line is met with no other
+pub client_met : (h : History) (l : Logs) (r : Reached) (i : ℕ) (x : Actor) → x ≡ C → IsMet h l r i (One x) → IsMetWith h l r i x
+client_met h l r i x client met = (met, λ n own. absurd (no_client n (sym client ∙ own)))
+
+-- a node's next line is met, alone and then with the client's
+pub node_met : (h : History) (l : Logs) (r new : Reached) (i : ℕ) (n : Node) (x : Actor) → x ≡ actor_at n → Extends r new → i < length r.visited
+    → IsMet h l r i (One x) → IsMet h l new i (Both n) → IsMetWith h l new i x
+node_met h l r new i n x at_n e lt one both =
+    (met_on h l r new i (One x) e lt one, λ m own. subst (λ (k : Node). IsMet h l new i (Both k)) (same_node n m (sym at_n ∙ own)) both)
 
 -- a next line that may be followed alone and leads on is
 pub alone_leads : (h : History) (l : Logs) (r new : Reached) (i : ℕ) (n : Node) (line : LogLine) (m : Met) → Extends r new → i < length r.visited
-    → MayBeAlone n l (cursors_at r i) line → IsMetBy h new i (actor_at n) line m → m ≡ met.Known → FollowsAlone h l new i
+    → MayBeAlone n l (cursors_at r i) line → IsMetBy h new i (alone_at n line) m → m ≡ met.Known → FollowsAlone h l new i
 alone_leads h l r new i n line m e lt may came known = record {
   node = n;
   line = line;
   may = subst (λ (g : Cursors). MayBeAlone n l g line) (sym (e.cursors i lt)) may;
-  leads = subst (IsMetBy h new i (actor_at n) line) known came;
+  leads = subst (IsMetBy h new i (alone_at n line)) known came;
 }
+
+-- of what a line that may be followed alone tells nothing comes only once
+nothing_often : (v : Version) (t : OutcomePattern) → is_nothing t ≡ true → comes_once v t ≡ true → ⊥
+nothing_often v pattern.BadMode nothing once = false≢true once
+nothing_often v pattern.Idle nothing once = false≢true once
+nothing_often v pattern.Elsewhere nothing once = false≢true once
+nothing_often v pattern.NotYet nothing once = false≢true once
+nothing_often v (pattern.Waits page) nothing once = false≢true once
+nothing_often v (pattern.Awaits page) nothing once = false≢true once
+nothing_often v pattern.NoMessage nothing once = false≢true once
+nothing_often v (pattern.Held page) nothing once = false≢true once
+nothing_often v pattern.Stray nothing once = false≢true once
+nothing_often v (pattern.Active txn) nothing once = false≢true once
+nothing_often v pattern.NoPush nothing once = false≢true once
+nothing_often v t nothing once = false≢true nothing
+
+-- so it has no twin
+pub no_twin_alone : (v : Version) (n : Node) (l : Logs) (g : Cursors) (line : LogLine) → MayBeAlone n l g line → HasTwin v (λ x. log_of x l) line → ⊥
+no_twin_alone v n l g line may twin =
+    let once = twin.1.4.first in
+    elim may.tells [
+      | inl did ↦
+          let same : Some pattern.Did ≡ Some once.what = sym did.did ∙ once.told in
+          let is : pattern.Did ≡ once.what = cc same in
+          absurd (false≢true (ap (comes_once v) is ∙ once.once))
+      | inr nothing ↦
+          let same : Some nothing.what ≡ Some once.what = sym nothing.told ∙ once.told in
+          let is : nothing.what ≡ once.what = cc same in
+          nothing_often v nothing.what nothing.nothing (ap (comes_once v) is ∙ once.once)
+    ]
 
 -- ---- missing steps
 

@@ -1,9 +1,10 @@
 -- Cursors that need no more missing steps than others: what leads on from the others leads on from them.
-use Rattle.std.proofs.Common.{◌≡◌, ◌∙◌, ℕ, ◌+◌, inl, inr, List, [], ◌∷◌, refl, sym, ap, subst, arith, length, slice_get}
+use Rattle.std.proofs.Common.{◌≡◌, ◌∙◌, ◌+◌, inl, inr, List, [], ◌∷◌, refl, sym, ap, subst, arith, slice_get, Option, None, Some}
 use Rattle.zy_isa.specs.declared.node.Actor.{Actor}
 use Rattle.zy_isa.specs.declared.node.Actor.TheVariants.{C, A, B}
 use Rattle.zy_isa.specs.declared.choice.Choice.{Choice}
-use Rattle.zy_isa.specs.Choices.{actor_of}
+use Rattle.zy_isa.specs.declared.version.Version.{Version}
+use Rattle.zy_isa.specs.Choices.{actor_of, actor_at}
 use Rattle.zy_isa.specs.Scenario.{Scenario}
 use Rattle.zy_table.specs.declared.observation.Observation.{Observation}
 use Rattle.zy_table.specs.State.{State}
@@ -13,8 +14,11 @@ use Rattle.zy_order.specs.declared.cursors.Cursor.{Cursor}
 use Rattle.zy_order.specs.declared.cursors.Cursors.{Cursors}
 use Rattle.zy_order.specs.Gaps.{gaps_of}
 use Rattle.zy_table.specs.Observations.{observation_at}
-use Rattle.zy_order.specs.Ways.{log_of, cursor_of, gap_at, passed, filled, with_cursor, advanced, with_missing, of_nodes}
-use Rattle.zy_order.specs.Ways.{NeedsNoMore, NeedNoMore, IsNoFurther, AreMatched, HasNext, HasGap, Leads, IsWay}
+use Rattle.zy_logs.specs.declared.log_line.LogLine.{LogLine}
+use Rattle.zy_order.specs.declared.tellers.Tellers.{Tellers}
+use Rattle.zy_order.specs.declared.tellers.Tellers.TheVariants.{One, Both}
+use Rattle.zy_order.specs.Ways.{log_of, cursor_of, gap_at, passed, filled, with_cursor, advanced, advanced_by, with_missing, of_nodes}
+use Rattle.zy_order.specs.Ways.{NeedsNoMore, NeedNoMore, IsNoFurther, AreMatched, IsNextLine, ComeBy, HasGap, Leads, IsWay}
 
 -- ---- cursors
 
@@ -64,15 +68,30 @@ need_with B f g p q n own = record { of_c = n.of_c; of_a = n.of_a; of_b = own }
 -- ---- what leads on
 
 -- a next line is next, too
-next_less : (l : Logs) (f g : Cursors) (o : Observation) → NeedNoMore f g → HasNext l g o → HasNext l f o
-next_less l f g o n next =
-    let x = actor_of o.entry.choice in
-    record {
-      line = next.line;
-      next = ap (λ k. slice_get (log_of x l) k) (need_of x f g n).lines ∙ next.next;
-      choice = next.choice;
-      agrees = next.agrees;
-    }
+line_less : (x : Actor) (l : Logs) (f g : Cursors) (line : LogLine) → NeedNoMore f g → IsNextLine x l g line → IsNextLine x l f line
+line_less x l f g line n next = ap (λ k. slice_get (log_of x l) k) (need_of x f g n).lines ∙ next
+
+-- so are those that come next
+come_less : (v : Version) (l : Logs) (f g : Cursors) (by : Tellers) (line : LogLine) (other : Option LogLine) → NeedNoMore f g
+    → ComeBy by v l g line other → ComeBy by v l f line other
+come_less v l f g (One x) line None n come = record { next = line_less x l f g line n come.next; alone = come.alone }
+come_less v l f g (One x) line (Some other) n come = absurd come
+come_less v l f g (Both k) line None n come = absurd come
+come_less v l f g (Both k) line (Some other) n come = record {
+  client = line_less C l f g line n come.client;
+  node = line_less (actor_at k) l f g other n come.node;
+  may = come.may;
+}
+
+-- they need no more behind a line
+need_advanced : (x : Actor) (f g : Cursors) → NeedNoMore f g → NeedNoMore (advanced x f) (advanced x g)
+need_advanced x f g n =
+    need_with x f g (passed (cursor_of x f)) (passed (cursor_of x g)) n (needs_passed (cursor_of x f) (cursor_of x g) (need_of x f g n))
+
+-- and behind those of a step
+need_by : (by : Tellers) (f g : Cursors) → NeedNoMore f g → NeedNoMore (advanced_by by f) (advanced_by by g)
+need_by (One x) f g n = need_advanced x f g n
+need_by (Both k) f g n = need_advanced (actor_at k) (advanced C f) (advanced C g) (need_advanced C f g n)
 
 -- and where one missing step more is possible, it is
 gap_less : (x : Actor) (l : Logs) (f g : Cursors) → NeedNoMore f g → HasGap x l g → HasGap x l f
@@ -83,30 +102,39 @@ gap_less x l f g n gap =
     omega (arith, is.missing, same, gap)
 
 -- where a step leads from cursors that need no more than others
-pub record LeadsLess (count : ℕ) (l : Logs) (f : Cursors) (o : Observation) (next : Cursors) : Type 0 where
+pub record LeadsLess (sc : Scenario) (l : Logs) (f : Cursors) (o : Observation) (next : Cursors) : Type 0 where
   pub to : Cursors
-  pub leads : Leads count l f o to
+  pub leads : Leads sc l f o to
   pub need : NeedNoMore to next
 
 -- a step that leads on from the others leads on from them, to cursors that need no more
-pub leads_less : (count : ℕ) (l : Logs) (f g : Cursors) (o : Observation) (next : Cursors) → NeedNoMore f g → Leads count l g o next → LeadsLess count l f o next
-leads_less count l f g o next n leads =
-    let x = actor_of o.entry.choice in
-    let p = cursor_of x f in
-    let q = cursor_of x g in
-    let own = need_of x f g n in
-    elim leads [
-      | inl by ↦ record {
-        to = advanced x f;
-        leads = inl (next_less l f g o n by.0, refl);
-        need = subst (NeedNoMore (advanced x f)) (sym by.1) (need_with x f g (passed p) (passed q) n (needs_passed p q own));
+pub leads_less : (sc : Scenario) (l : Logs) (f g : Cursors) (o : Observation) (next : Cursors) → NeedNoMore f g → Leads sc l g o next → LeadsLess sc l f o next
+leads_less sc l f g o next n leads = elim leads [
+  | inl by ↦
+      let lines = by.0.lines in
+      record {
+        to = advanced_by lines.by f;
+        leads = inl (
+          record {
+            lines = lines;
+            next = come_less sc.version l f g lines.by lines.line lines.other n by.0.next;
+            choice = by.0.choice;
+            agree = by.0.agree;
+          },
+          refl,
+        );
+        need = subst (NeedNoMore (advanced_by lines.by f)) (sym by.1) (need_by lines.by f g n);
       }
-      | inr by ↦ record {
+  | inr by ↦
+      let x = actor_of o.entry.choice in
+      let p = cursor_of x f in
+      let q = cursor_of x g in
+      record {
         to = with_missing x f;
         leads = inr (record { named = by.0.named; gap = gap_less x l f g n by.0.gap }, refl);
-        need = subst (NeedNoMore (with_missing x f)) (sym by.1) (need_with x f g (filled p) (filled q) n (needs_both p q own));
+        need = subst (NeedNoMore (with_missing x f)) (sym by.1) (need_with x f g (filled p) (filled q) n (needs_both p q (need_of x f g n)));
       }
-    ]
+]
 
 -- where a way leads from cursors that need no more than others
 pub record IsWayLess (sc : Scenario) (l : Logs) (f : Cursors) (s : State) (cs : List Choice) (to : Cursors) : Type 0 where
@@ -119,7 +147,7 @@ pub way_less : (sc : Scenario) (l : Logs) (f g : Cursors) (s : State) (cs : List
     → IsWayLess sc l f s cs to
 way_less sc l f g s [] to n way = record { end = f; way = refl; need = subst (NeedNoMore f) way n }
 way_less sc l f g s (c ∷ cs) to n way =
-    let first = leads_less (length sc.programs) l f g (observation_at sc s c) way.0 n way.1 in
+    let first = leads_less sc l f g (observation_at sc s c) way.0 n way.1 in
     let rest = way_less sc l first.to way.0 (step sc c s).after cs to first.need way.2 in
     record { end = rest.end; way = (first.to, first.leads, rest.way); need = rest.need }
 

@@ -1,19 +1,15 @@
 -- A path more.
 use Rattle.std.proofs.Common.{◌≡◌, ◌∙◌, ℕ, ◌+◌, ◌<◌, ◌^◌, ◌⊎◌, inl, inr, List, [], ◌∷◌, ◌++◌, length, refl, sym, ap, subst, arith, length-append}
-use Rattle.std.proofs.Common.{slice_get, Some, Result, Ok, Err, OnOk}
+use Rattle.std.proofs.Common.{Result, Ok, Err, OnOk}
 use Rattle.std.specs.Prelude.{Contains}
 use Rattle.std.proofs.lemmas.Bool.{cases_lt}
 use Rattle.std.proofs.lemmas.List.{get_or_append_left, get_or_push}
 use Rattle.std.proofs.lemmas.List.Elements.{Contains-append_left, Contains-push, Contains-push_cases}
-use Rattle.zy_isa.specs.declared.node.Actor.{Actor}
 use Rattle.zy_isa.specs.declared.choice.Choice.{Choice}
-use Rattle.zy_isa.specs.Choices.{actor_of}
 use Rattle.zy_isa.specs.Scenario.{Scenario}
 use Rattle.zy_table.specs.declared.observation.Observation.{Observation}
 use Rattle.zy_table.specs.State.{State}
 use Rattle.zy_table.specs.Play.{step}
-use Rattle.zy_logs.specs.Agrees.{Agrees}
-use Rattle.zy_logs.specs.declared.log_line.LogLine.{LogLine}
 use Rattle.zy_machine.specs.Histories.{History}
 use Rattle.zy_search.specs.Searches.{reached}
 use Rattle.zy_search.specs.Visits.{path_at, Grows, IsHere}
@@ -28,7 +24,9 @@ use Rattle.zy_order.specs.declared.reached.Reached.{Reached}
 use Rattle.zy_order.specs.declared.search.Search.{Search}
 use Rattle.zy_search.specs.declared.branch.Branch.{Branch}
 use Rattle.zy_table.specs.Observations.{observation_at}
-use Rattle.zy_order.specs.Ways.{log_of, cursor, at_start, cursors_in, advanced, NeedNoMore, Leads}
+use Rattle.zy_order.specs.declared.tellers.StepLines.{StepLines}
+use Rattle.zy_order.specs.Orders.{Agree}
+use Rattle.zy_order.specs.Ways.{at_start, cursors_in, advanced_by, NeedNoMore, ComeNext, Leads}
 use Rattle.zy_order.specs.Reaches.{cursors_at, observation_by, state_by, IsKnown, IsReached, IsUnderWay, IsSearch, IsWayOf}
 use Rattle.zy_order.specs.Reaches.{StandsAt, IsNext, GoesOn, HasMade, Adds, KeepsOthers}
 use Rattle.zy_order.proofs.NeedLemmas.{need_self}
@@ -226,34 +224,23 @@ is_next p s at m c twin is scenario state longer =
       longer = omega (arith, is.machine.entries, longer);
     }
 
--- with it the search has made the choice of a line
-pub has_made : (p : Plan) (s : Search) (at : ℕ) (m : History) (x : Actor) (line : LogLine) (shown : Observation) (twin : History) → StandsAt p s at m
-    → slice_get (log_of x p.logs) (cursor x (cursors_at s.reached at)) ≡ Some line → twin.scenario ≡ m.scenario
-    → twin.state ≡ (step m.scenario line.choice m.state).after → length twin.entries ≡ length m.entries + 1
-    → shown ≡ observation_at m.scenario m.state line.choice → HasMade p (record s { twin = twin }) at x line shown
-has_made p s at m x line shown twin is next scenario state longer came = record {
+-- with it the search has made the choice of the lines of a step
+pub has_made : (p : Plan) (s : Search) (at : ℕ) (m : History) (lines : StepLines) (shown : Observation) (twin : History) → StandsAt p s at m
+    → ComeNext p.start.scenario.version p.logs (cursors_at s.reached at) lines → twin.scenario ≡ m.scenario
+    → twin.state ≡ (step m.scenario lines.line.choice m.state).after → length twin.entries ≡ length m.entries + 1
+    → shown ≡ observation_at m.scenario m.state lines.line.choice → HasMade p (record s { twin = twin }) at lines shown
+has_made p s at m lines shown twin is next scenario state longer came = record {
   search = search_twin p s twin is.search (scenario ∙ is.machine.scenario);
   there = is.there;
   next = next;
-  made = is_next p s at m line.choice twin is scenario state longer;
-  came = came ∙ observation_here p.start s.reached at m line.choice is.machine;
+  made = is_next p s at m lines.line.choice twin is scenario state longer;
+  came = came ∙ observation_here p.start s.reached at m lines.line.choice is.machine;
 }
 
--- the next line of an actor leads on where it agrees with what comes of its choice
-pub line_leads : (count : ℕ) (l : Logs) (g : Cursors) (o : Observation) (x : Actor) (line : LogLine) (to : Cursors)
-    → slice_get (log_of x l) (cursor x g) ≡ Some line → actor_of line.choice ≡ x → line.choice ≡ o.entry.choice → Agrees line o → to ≡ advanced x g
-    → Leads count l g o to
-line_leads count l g o x line to next own choice agrees there =
-    let same : x ≡ actor_of o.entry.choice = sym own ∙ ap actor_of choice in
-    inl (
-      record {
-        line = line;
-        next = subst (λ (y : Actor). slice_get (log_of y l) (cursor y g) ≡ Some line) same next;
-        choice = choice;
-        agrees = agrees;
-      },
-      there ∙ ap (λ (y : Actor). advanced y g) same,
-    )
+-- lines that come next lead on where they agree with what comes of their choice
+pub lines_lead : (sc : Scenario) (l : Logs) (g : Cursors) (o : Observation) (lines : StepLines) (to : Cursors) → ComeNext sc.version l g lines
+    → lines.line.choice ≡ o.entry.choice → Agree lines.line lines.other o → to ≡ advanced_by lines.by g → Leads sc l g o to
+lines_lead sc l g o lines to next choice agree there = inl (record { lines = lines; next = next; choice = choice; agree = agree }, there)
 
 -- ---- another recent
 
@@ -289,7 +276,7 @@ goes_on_recent p s t b to new on =
       search = search_recent p s t new on.search;
       there = subst (λ (r : Reached). b.from < length r.visited) (sym new.reached) on.there;
       leads =
-          subst (λ (r : Reached). Leads (length h.scenario.programs) p.logs (cursors_at r b.from) (observation_by h r b.from b.by) to) (sym new.reached) on.leads;
+          subst (λ (r : Reached). Leads h.scenario p.logs (cursors_at r b.from) (observation_by h r b.from b.by) to) (sym new.reached) on.leads;
       next =
           subst (λ (r : Reached). IsNext h r b.from b.by t.twin) (sym new.reached)
           (subst (λ (m : History). IsNext h s.reached b.from b.by m) (sym new.twin) on.next);

@@ -1,5 +1,7 @@
 -- What a search knows of the paths that it has reached.
-use Rattle.std.proofs.Common.{◌≡◌, ◌∙◌, ℕ, zero, suc, ◌+◌, ◌<◌, ◌≤◌, inl, inr, List, [], ◌∷◌, length, refl, sym, ap, subst, arith}
+use Rattle.std.proofs.Common.{◌≡◌, ◌∙◌, ℕ, zero, suc, ◌+◌, ◌<◌, ◌≤◌, inl, inr, List, [], ◌∷◌, length, refl, sym, ap, subst, arith, Option, None, Some}
+use Rattle.std.proofs.lemmas.Option.{slice_get_within}
+use Rattle.zy_isa.specs.Scenario.{Scenario}
 use Rattle.zy_isa.specs.declared.node.Node.{Node}
 use Rattle.zy_isa.specs.declared.node.Actor.{Actor}
 use Rattle.zy_isa.specs.declared.node.Actor.TheVariants.{C, A, B}
@@ -12,7 +14,6 @@ use Rattle.zy_table.specs.Play.{play, step}
 use Rattle.zy_laws.proofs.walk.PlayPush.{play-keeps}
 use Rattle.zy_laws.proofs.order.ListsInOrder.{Tidy, ordered_from, step_tidy, tidy}
 use Rattle.zy_machine.specs.Histories.{History, choices_of}
-use Rattle.zy_logs.specs.Agrees.{Agrees}
 use Rattle.zy_logs.specs.declared.log_line.LogLine.{LogLine}
 use Rattle.zy_search.specs.Searches.{reached}
 use Rattle.zy_search.specs.Visits.{path_at, Grows}
@@ -23,9 +24,15 @@ use Rattle.zy_order.specs.declared.plan.Plan.{Plan}
 use Rattle.zy_order.specs.declared.reached.Reached.{Reached}
 use Rattle.zy_order.specs.Answers.{HasEnd}
 use Rattle.zy_table.specs.Observations.{observation_at}
-use Rattle.zy_order.specs.Ways.{log_of, cursor, at_start, cursors_in, advanced, with_missing, of_nodes, line_count}
-use Rattle.zy_order.specs.Ways.{IsNoFurther, NeedNoMore, AreMatched, HasNext, HasGap, Leads, IsWay}
-use Rattle.zy_order.specs.Reaches.{cursors_at, observation_by, state_by, Extends, IsKnown, IsReached, IsMet, IsTried, FollowsAll, MayBeAlone, LeadsOn, FollowsAlone}
+use Rattle.zy_isa.specs.Integers.{max_u16}
+use Rattle.zy_order.specs.declared.tellers.StepLines.{StepLines}
+use Rattle.zy_order.specs.declared.tellers.Tellers.{Tellers}
+use Rattle.zy_order.specs.declared.tellers.Tellers.TheVariants.{One, Both}
+use Rattle.zy_order.specs.Orders.{Agree}
+use Rattle.zy_order.specs.Ways.{log_of, cursor, at_start, cursors_in, advanced, advanced_by, with_missing, of_nodes, line_count, Tells}
+use Rattle.zy_order.specs.Ways.{IsNoFurther, NeedNoMore, AreMatched, IsNextLine, ComeBy, TellNext, HasGap, Leads, IsWay}
+use Rattle.zy_order.specs.Reaches.{cursors_at, observation_by, state_by, alone_at, Extends, IsKnown, IsReached, IsMet, IsMetWith, AreMet, IsTried, FollowsAll}
+use Rattle.zy_order.specs.Reaches.{AgreeAt, MayBeAlone, LeadsOn, FollowsAlone}
 use Rattle.zy_order.specs.Reaches.{IsCompleteAt, IsFollowed, IsFurthestPath, IsWayOf, IsFurthestWay, IsOtherEndWay, IsPlan}
 use Rattle.zy_order.proofs.NeedLemmas.{need_self, need_missing, need_lines, way_less, matched_less, no_further_less, no_further_self, no_further_on}
 use Rattle.zy_order.proofs.WayLemmas.{along, log_few, within_start}
@@ -33,12 +40,17 @@ use Rattle.zy_order.proofs.AloneLemmas.{BeginsBy, begins_by}
 
 -- ---- each way is outdone
 
+-- where each actor's next line is met, lines of any logs are
+met_by : (h : History) (l : Logs) (r : Reached) (i : ℕ) → AreMet h l r i → (by : Tellers) → IsMet h l r i by
+met_by h l r i met (One x) = (met x).0
+met_by h l r i met (Both n) = (met (actor_at n)).1 n refl
+
 -- where all steps were followed, each step that leads on leads where a path does
 all_lead : (h : History) (l : Logs) (r : Reached) (i : ℕ) (c : Choice) (next : Cursors) → FollowsAll h l r i
-    → Leads (length h.scenario.programs) l (cursors_at r i) (observation_by h r i c) next → IsKnown h r next (state_by h r i c)
+    → Leads h.scenario l (cursors_at r i) (observation_by h r i c) next → IsKnown h r next (state_by h r i c)
 all_lead h l r i c next is leads =
     elim leads [
-      | inl by ↦ subst (λ (g : Cursors). IsKnown h r g (state_by h r i c)) (sym by.1) (is.met (actor_of c) c refl by.0)
+      | inl by ↦ subst (λ (g : Cursors). IsKnown h r g (state_by h r i c)) (sym by.1) (met_by h l r i is.met by.0.lines.by c by.0 refl)
       | inr by ↦ subst (λ (g : Cursors). IsKnown h r g (state_by h r i c)) (sym by.1) (is.tried c by.0.named by.0.gap)
     ]
 
@@ -52,10 +64,15 @@ lines_advanced C g = omega arith
 lines_advanced A g = omega arith
 lines_advanced B g = omega arith
 
+-- so there are more with those of a step
+lines_by : (by : Tellers) (g : Cursors) → lines_in g < lines_in (advanced_by by g)
+lines_by (One x) g = omega (arith, lines_advanced x g)
+lines_by (Both n) g = omega (arith, lines_advanced (actor_at n) (advanced C g), lines_advanced C g)
+
 -- a step leads to no fewer lines
-lines_lead : (count : ℕ) (l : Logs) (g : Cursors) (o : Observation) (to : Cursors) → Leads count l g o to → lines_in g ≤ lines_in to
-lines_lead count l g o to leads = elim leads [
-  | inl by ↦ omega (arith, lines_advanced (actor_of o.entry.choice) g, ap lines_in by.1)
+lines_lead : (sc : Scenario) (l : Logs) (g : Cursors) (o : Observation) (to : Cursors) → Leads sc l g o to → lines_in g ≤ lines_in to
+lines_lead sc l g o to leads = elim leads [
+  | inl by ↦ omega (arith, lines_by by.0.lines.by g, ap lines_in by.1)
   | inr by ↦ omega (arith, need_lines g (with_missing (actor_of o.entry.choice) g) (need_missing (actor_of o.entry.choice) g), ap lines_in by.1)
 ]
 
@@ -134,10 +151,7 @@ module _ (p : Plan) (r : Reached) (plan : IsPlan p) (is : IsReached p r) (all : 
   begins_at : (i : ℕ) (one : FollowsAlone h l r i) (cs : List Choice) (to : Cursors) → IsWay h.scenario l (cursors_at r i) (state_at i) cs to
       → BeginsBy h.scenario l one.line.choice (cursors_at r i) (state_at i) cs to (actor_at one.node)
   begins_at i one cs to way =
-      let g = cursors_at r i in
-      let x = actor_at one.node in
-      let own = (plan.lines x (cursor x g) one.line one.may.next).0 in
-      begins_by h.scenario l one.node g (state_at i) one.line (locks_at one.node i) own one.may one.leads.agrees cs to way
+      begins_by h.scenario l one.node (cursors_at r i) (state_at i) one.line plan.lines (locks_at one.node i) one.may one.leads.agree.0 cs to way
 
   -- one choice or one line fewer is left behind a step
   ends_more : (most : ℕ) → Ends most → Ends (suc most)
@@ -146,7 +160,7 @@ module _ (p : Plan) (r : Reached) (plan : IsPlan p) (is : IsReached p r) (all : 
       let g = cursors_at r i in
       elim (all i lt).steps [
         | inl each ↦
-            let lines = lines_lead (length h.scenario.programs) l g (observation_by h r i c) way.0 way.1 in
+            let lines = lines_lead h.scenario l g (observation_by h r i c) way.0 way.1 in
             from_known most ends way.0 (state_by h r i c) (all_lead h l r i c way.0 each way.1) cs to way.2 (omega (arith, few, lines))
         | inr one ↦
             let begins = begins_at i one (c ∷ cs) to way in
@@ -232,13 +246,20 @@ known_on h r new g s x known = (
   ap (reached h) (x.paths.same known.0 known.1) ∙ known.3,
 )
 
--- a line that was met still is
-pub met_on : (h : History) (l : Logs) (r new : Reached) (i : ℕ) (x : Actor) → Extends r new → i < length r.visited → IsMet h l r i x → IsMet h l new i x
-met_on h l r new i x e lt met = λ c own.
-    subst (λ (g : Cursors). HasNext l g (observation_by h new i c) → IsKnown h new (advanced x g) (state_by h new i c)) (sym (e.cursors i lt))
-    (subst (λ (path : List Choice). HasNext l (cursors_at r i) (observation_at h.scenario (reached h path) c)
-    → IsKnown h new (advanced x (cursors_at r i)) (step h.scenario c (reached h path)).after) (sym (e.paths.same i lt))
-    (λ next. known_on h r new _ _ e (met c own next)))
+-- lines that were met still are
+pub met_on : (h : History) (l : Logs) (r new : Reached) (i : ℕ) (by : Tellers) → Extends r new → i < length r.visited → IsMet h l r i by → IsMet h l new i by
+met_on h l r new i by e lt met = λ c.
+    subst (λ (g : Cursors). (tell : TellNext h.scenario.version l g (observation_by h new i c)) → tell.lines.by ≡ by
+    → IsKnown h new (advanced_by by g) (state_by h new i c)) (sym (e.cursors i lt))
+    (subst (λ (path : List Choice). (tell : TellNext h.scenario.version l (cursors_at r i) (observation_at h.scenario (reached h path) c))
+    → tell.lines.by ≡ by → IsKnown h new (advanced_by by (cursors_at r i)) (step h.scenario c (reached h path)).after) (sym (e.paths.same i lt))
+    (λ tell same. known_on h r new _ _ e (met c tell same)))
+
+-- with those of an actor
+pub met_with_on : (h : History) (l : Logs) (r new : Reached) (i : ℕ) (x : Actor) → Extends r new → i < length r.visited → IsMetWith h l r i x
+    → IsMetWith h l new i x
+met_with_on h l r new i x e lt met =
+    (met_on h l r new i (One x) e lt met.0, λ n own. met_on h l r new i (Both n) e lt (met.1 n own))
 
 -- a choice that was tried still is
 pub tried_on : (h : History) (l : Logs) (r new : Reached) (i : ℕ) (c : Choice) → Extends r new → i < length r.visited → IsTried h l r i c
@@ -250,36 +271,38 @@ tried_on h l r new i c e lt tried =
     → IsKnown h new (with_missing x (cursors_at r i)) (step h.scenario c (reached h path)).after) (sym (e.paths.same i lt))
     (λ gap. known_on h r new _ _ e (tried gap)))
 
--- where a line agrees with what comes of its choice and a path leads where that does, it leads on
-pub leads_by : (h : History) (r new : Reached) (i : ℕ) (x : Actor) (line : LogLine) (came : Observation) (to : Cursors) → Extends r new → i < length r.visited
-    → came ≡ observation_by h r i line.choice → Agrees line came → to ≡ advanced x (cursors_at r i) → IsKnown h new to (state_by h r i line.choice)
-    → LeadsOn h new i x line
-leads_by h r new i x line came to e lt same agrees there known = record {
-  agrees =
-      subst (λ (path : List Choice). Agrees line (observation_at h.scenario (reached h path) line.choice)) (sym (e.paths.same i lt))
-      (subst (Agrees line) same agrees);
-  known =
-      subst (λ (g : Cursors). IsKnown h new (advanced x g) (state_by h new i line.choice)) (sym (e.cursors i lt))
-      (subst (λ (path : List Choice). IsKnown h new (advanced x (cursors_at r i)) (step h.scenario line.choice (reached h path)).after)
-      (sym (e.paths.same i lt)) (subst (λ (f : Cursors). IsKnown h new f (state_by h r i line.choice)) there known));
-}
+-- where lines agree with what comes of their choice and a path leads where that does, they lead on
+pub leads_by : (h : History) (r new : Reached) (i : ℕ) (lines : StepLines) (came : Observation) (to : Cursors) → Extends r new → i < length r.visited
+    → came ≡ observation_by h r i lines.line.choice → Agree lines.line lines.other came → to ≡ advanced_by lines.by (cursors_at r i)
+    → IsKnown h new to (state_by h r i lines.line.choice) → LeadsOn h new i lines
+leads_by h r new i lines came to e lt same agree there known =
+    let c = lines.line.choice in
+    record {
+      agree =
+          subst (λ (path : List Choice). Agree lines.line lines.other (observation_at h.scenario (reached h path) c)) (sym (e.paths.same i lt))
+          (subst (Agree lines.line lines.other) same agree);
+      known =
+          subst (λ (g : Cursors). IsKnown h new (advanced_by lines.by g) (state_by h new i c)) (sym (e.cursors i lt))
+          (subst (λ (path : List Choice). IsKnown h new (advanced_by lines.by (cursors_at r i)) (step h.scenario c (reached h path)).after)
+          (sym (e.paths.same i lt)) (subst (λ (f : Cursors). IsKnown h new f (state_by h r i c)) there known));
+    }
 
--- a line that does not agree with what came of its choice does not agree with what comes of it
-pub unfit_by : (h : History) (r : Reached) (i : ℕ) (line : LogLine) (came : Observation) → came ≡ observation_by h r i line.choice → (Agrees line came → ⊥)
-    → Agrees line (observation_by h r i line.choice) → ⊥
-unfit_by h r i line came same unfit = λ agrees. unfit (subst (Agrees line) (sym same) agrees)
+-- lines that do not agree with what came of their choice do not agree with what comes of it
+pub unfit_by : (h : History) (r : Reached) (i : ℕ) (lines : StepLines) (came : Observation) → came ≡ observation_by h r i lines.line.choice
+    → (Agree lines.line lines.other came → ⊥) → AgreeAt h r i lines → ⊥
+unfit_by h r i lines came same unfit = λ agree. unfit (subst (Agree lines.line lines.other) (sym same) agree)
 
--- a line that leads on still does
-leads_on : (h : History) (r new : Reached) (i : ℕ) (x : Actor) (line : LogLine) → Extends r new → i < length r.visited → LeadsOn h r i x line
-    → LeadsOn h new i x line
-leads_on h r new i x line e lt leads =
-    leads_by h r new i x line (observation_by h r i line.choice) (advanced x (cursors_at r i)) e lt refl leads.agrees refl (known_on h r new _ _ e leads.known)
+-- lines that lead on still do
+leads_on : (h : History) (r new : Reached) (i : ℕ) (lines : StepLines) → Extends r new → i < length r.visited → LeadsOn h r i lines → LeadsOn h new i lines
+leads_on h r new i lines e lt leads =
+    leads_by h r new i lines (observation_by h r i lines.line.choice) (advanced_by lines.by (cursors_at r i)) e lt refl leads.agree refl
+    (known_on h r new _ _ e leads.known)
 
 -- where all steps were followed they still are
 all_on : (h : History) (l : Logs) (r new : Reached) (i : ℕ) → Extends r new → i < length r.visited → FollowsAll h l r i → FollowsAll h l new i
 all_on h l r new i e lt is = record {
   tried = λ c named. tried_on h l r new i c e lt (is.tried c named);
-  met = λ x. met_on h l r new i x e lt (is.met x);
+  met = λ x. met_with_on h l r new i x e lt (is.met x);
 }
 
 -- where a line was followed alone it still is
@@ -288,7 +311,7 @@ alone_on h l r new i e lt is = record {
   node = is.node;
   line = is.line;
   may = subst (λ (g : Cursors). MayBeAlone is.node l g is.line) (sym (e.cursors i lt)) is.may;
-  leads = leads_on h r new i (actor_at is.node) is.line e lt is.leads;
+  leads = leads_on h r new i (alone_at is.node is.line) e lt is.leads;
 }
 
 -- a path that is an order with the end that is asked for was one
@@ -310,6 +333,17 @@ followed_on p r new i e lt is = record {
 
 -- ---- cursors have room
 
--- an actor's cursor has room for one line more where it has a next line
-pub line_few : (p : Plan) (x : Actor) (g : Cursors) → IsPlan p → cursor x g < length (log_of x p.logs) → cursor x g < 65535
-line_few p x g plan lt = omega (arith, lt, log_few x p.logs, plan.room)
+-- an actor's cursor has room for its next line
+line_few : (p : Plan) (x : Actor) (g : Cursors) (line : LogLine) → IsPlan p → IsNextLine x p.logs g line → cursor x g < max_u16
+line_few p x g line plan next = omega (arith, slice_get_within (log_of x p.logs) (cursor x g) line next, log_few x p.logs, plan.room)
+
+-- and for lines that come next
+pub come_few : (p : Plan) (g : Cursors) (by : Tellers) (line : LogLine) (other : Option LogLine) → IsPlan p → ComeBy by p.start.scenario.version p.logs g line other
+    → (x : Actor) → Tells by x → cursor x g < max_u16
+come_few p g (One y) line None plan come x tells = subst (λ (z : Actor). cursor z g < max_u16) (sym tells) (line_few p y g line plan come.next)
+come_few p g (One y) line (Some other) plan come x tells = absurd come
+come_few p g (Both n) line None plan come x tells = absurd come
+come_few p g (Both n) line (Some other) plan come x tells = elim tells [
+  | inl client ↦ subst (λ (z : Actor). cursor z g < max_u16) (sym client) (line_few p C g line plan come.client)
+  | inr node ↦ subst (λ (z : Actor). cursor z g < max_u16) (sym node) (line_few p (actor_at n) g other plan come.node)
+]

@@ -1,13 +1,16 @@
 -- Choices that go along the logs.
-use Rattle.std.proofs.Common.{length-append, ◌≡◌, ◌∙◌, ℕ, ◌+◌, ◌<◌, ◌≤◌, inl, inr, List, [], ◌∷◌, ◌++◌, length, refl, sym, subst, arith, true, take, slice_get, Some}
+use Rattle.std.proofs.Common.{length-append, ◌≡◌, ◌∙◌, ℕ, ◌+◌, ◌<◌, ◌≤◌, inl, inr, List, [], ◌∷◌, ◌++◌, length, refl, sym, subst, arith, true, take, slice_get, ap, Option, None, Some}
 use Rattle.std.specs.Prelude.{sum}
 use Rattle.std.proofs.lemmas.Option.{slice_get_within}
 use Rattle.std.proofs.lemmas.Bool.{cases_lt}
 use Rattle.std.proofs.lemmas.List.Sums.{sum_by_more, sum_by-take-le}
 use Rattle.zy_isa.specs.declared.node.Actor.{Actor}
 use Rattle.zy_isa.specs.declared.node.Actor.TheVariants.{C, A, B}
+use Rattle.zy_isa.specs.declared.node.Node.{Node}
+use Rattle.zy_isa.specs.declared.node.Node.TheVariants as node
+use Rattle.zy_isa.specs.declared.version.Version.{Version}
 use Rattle.zy_isa.specs.declared.choice.Choice.{Choice}
-use Rattle.zy_isa.specs.Choices.{actor_of, names_below}
+use Rattle.zy_isa.specs.Choices.{actor_of, actor_at, names_below}
 use Rattle.zy_isa.specs.Scenario.{Scenario, AreNamed}
 use Rattle.zy_table.specs.declared.observation.Observation.{Observation}
 use Rattle.zy_table.specs.State.{State}
@@ -18,8 +21,10 @@ use Rattle.zy_order.specs.declared.cursors.Cursor.{Cursor}
 use Rattle.zy_order.specs.declared.cursors.Cursors.{Cursors}
 use Rattle.zy_order.specs.Gaps.{gaps_of}
 use Rattle.zy_table.specs.Observations.{observation_at}
-use Rattle.zy_order.specs.Ways.{log_of, cursor_of, cursor, at_start, gap_at, passed, filled, with_cursor, step_count}
-use Rattle.zy_order.specs.Ways.{AreMatched, IsIn, IsWithin, HasNext, Leads, IsWay, AreLinesOf}
+use Rattle.zy_order.specs.declared.tellers.Tellers.{Tellers}
+use Rattle.zy_order.specs.declared.tellers.Tellers.TheVariants.{One, Both}
+use Rattle.zy_order.specs.Ways.{log_of, cursor_of, cursor, at_start, gap_at, passed, filled, with_cursor, advanced, advanced_by, step_count}
+use Rattle.zy_order.specs.Ways.{AreMatched, IsIn, IsWithin, IsNextLine, ComeBy, ComeTogether, Leads, IsWay, AreLinesOf}
 
 -- ---- in one log
 
@@ -87,19 +92,52 @@ on_moved C l g k w is more = record { within = record { of_c = is; of_a = w.of_a
 on_moved A l g k w is more = record { within = record { of_c = w.of_c; of_a = is; of_b = w.of_b }; more = omega (arith, more) }
 on_moved B l g k w is more = record { within = record { of_c = w.of_c; of_a = w.of_a; of_b = is }; more = omega (arith, more) }
 
--- so it does by each step
-pub on_by : (count : ℕ) (l : Logs) (g : Cursors) (o : Observation) (to : Cursors) → HaveGaps l → IsWithin l g → Leads count l g o to → IsOn l g to
-on_by count l g o to many w leads =
-    let x = actor_of o.entry.choice in
+-- so it does by its next line
+pub on_line : (x : Actor) (l : Logs) (g : Cursors) (line : LogLine) → HaveGaps l → IsWithin l g → IsNextLine x l g line → IsOn l g (advanced x g)
+on_line x l g line many w next =
     let log = log_of x l in
     let gaps = gaps_of x l.gaps in
     let k = cursor_of x g in
     let is = is_in x l g w in
+    on_moved x l g (passed k) w (in_passed log gaps k (many x) is (slice_get_within log k.lines line next)) (spent_passed log gaps k (many x) is)
+
+-- and then by another
+on_then : (l : Logs) (f g h : Cursors) → IsOn l f g → IsOn l g h → IsOn l f h
+on_then l f g h x y = record { within = y.within; more = omega (arith, x.more, y.more) }
+
+-- no node is the client
+pub no_client : (n : Node) → C ≡ actor_at n → ⊥
+no_client node.A e = cc e
+no_client node.B e = cc e
+
+-- the next line of a node is next behind a line of the client
+pub node_beside : (n : Node) (l : Logs) (g : Cursors) (line : LogLine) → IsNextLine (actor_at n) l g line → IsNextLine (actor_at n) l (advanced C g) line
+node_beside node.A l g line next = next
+node_beside node.B l g line next = next
+
+-- so they do by lines that come next
+on_come : (v : Version) (l : Logs) (g : Cursors) (by : Tellers) (line : LogLine) (other : Option LogLine) → HaveGaps l → IsWithin l g
+    → ComeBy by v l g line other → IsOn l g (advanced_by by g)
+on_come v l g (One x) line None many w come = on_line x l g line many w come.next
+on_come v l g (One x) line (Some other) many w come = absurd come
+on_come v l g (Both n) line None many w come = absurd come
+on_come v l g (Both n) line (Some other) many w come =
+    let first = on_line C l g line many w come.client in
+    on_then l g (advanced C g) (advanced (actor_at n) (advanced C g)) first
+    (on_line (actor_at n) l (advanced C g) other many first.within (node_beside n l g other come.node))
+
+-- and by each step
+pub on_by : (sc : Scenario) (l : Logs) (g : Cursors) (o : Observation) (to : Cursors) → HaveGaps l → IsWithin l g → Leads sc l g o to → IsOn l g to
+on_by sc l g o to many w leads =
     elim leads [
       | inl by ↦
-          let lt = slice_get_within log k.lines by.0.line by.0.next in
-          subst (IsOn l g) (sym by.1) (on_moved x l g (passed k) w (in_passed log gaps k (many x) is lt) (spent_passed log gaps k (many x) is))
+          let lines = by.0.lines in subst (IsOn l g) (sym by.1) (on_come sc.version l g lines.by lines.line lines.other many w by.0.next)
       | inr by ↦
+          let x = actor_of o.entry.choice in
+          let log = log_of x l in
+          let gaps = gaps_of x l.gaps in
+          let k = cursor_of x g in
+          let is = is_in x l g w in
           subst (IsOn l g) (sym by.1) (on_moved x l g (filled k) w (in_filled log gaps k (many x) is by.0.gap) (spent_filled log gaps k (many x) is))
     ]
 
@@ -121,7 +159,7 @@ pub along : (sc : Scenario) (l : Logs) (g : Cursors) (s : State) (cs : List Choi
     → IsAlong l g cs to
 along sc l g s [] to many w way = subst (IsAlong l g []) way (record { within = w; more = omega arith })
 along sc l g s (c ∷ cs) to many w way =
-    let on = on_by (length sc.programs) l g (observation_at sc s c) way.0 many w way.1 in
+    let on = on_by sc l g (observation_at sc s c) way.0 many w way.1 in
     let rest = along sc l way.0 (step sc c s).after cs to many on.within way.2 in
     record { within = rest.within; more = omega (arith, on.more, rest.more) }
 
@@ -158,14 +196,36 @@ matched_of B l g end = end.of_b
 pub next_part : (x : Actor) (l : Logs) (g : Cursors) (line : LogLine) → slice_get (log_of x l) (cursor x g) ≡ Some line → AreMatched l g → ⊥
 next_part x l g line next end = absurd (omega (arith, matched_of x l g end, slice_get_within (log_of x l) (cursor x g) line next))
 
--- a line that fits where an actor is is its next one
-pub same_line : (l : Logs) (g : Cursors) (o : Observation) (x : Actor) (line : LogLine) → actor_of o.entry.choice ≡ x
-    → slice_get (log_of x l) (cursor x g) ≡ Some line → (fits : HasNext l g o) → line ≡ fits.line
-same_line l g o x line own next fits =
-    let here : slice_get (log_of x l) (cursor x g) ≡ Some fits.line =
-    subst (λ (y : Actor). slice_get (log_of y l) (cursor y g) ≡ Some fits.line) own fits.next in
-    let both : Some line ≡ Some fits.line = sym next ∙ here in
-    cc both
+-- an actor has one next line
+pub same_line : (x : Actor) (l : Logs) (g : Cursors) (line other : LogLine) → IsNextLine x l g line → IsNextLine x l g other → line ≡ other
+same_line x l g line other next also = let both : Some line ≡ Some other = sym next ∙ also in cc both
+
+-- of the same logs one list of lines comes next
+pub same_lines : (v : Version) (l : Logs) (g : Cursors) (by : Tellers) (line m : LogLine) (other n : Option LogLine) → ComeBy by v l g line other
+    → ComeBy by v l g m n → (line ≡ m) × (other ≡ n)
+same_lines v l g (One x) line m None None come also = (same_line x l g line m come.next also.next, refl)
+same_lines v l g (One x) line m (Some other) n come also = absurd come
+same_lines v l g (One x) line m None (Some n) come also = absurd also
+same_lines v l g (Both k) line m None n come also = absurd come
+same_lines v l g (Both k) line m (Some other) None come also = absurd also
+same_lines v l g (Both k) line m (Some other) (Some n) come also =
+    (same_line C l g line m come.client also.client, ap Some (same_line (actor_at k) l g other n come.node also.node))
+
+-- where no two lines come next together, none do by the client's log and a node's
+pub none_together : (v : Version) (n : Node) (l : Logs) (g : Cursors) → ((line other : LogLine) → ComeTogether v n l g line other → ⊥)
+    → (by : Tellers) (line : LogLine) (other : Option LogLine) → by ≡ Both n → ComeBy by v l g line other → ⊥
+none_together v n l g none (One x) line other same come = cc same
+none_together v n l g none (Both k) line None same come = come
+none_together v n l g none (Both k) line (Some other) same come =
+    let is : k ≡ n = cc same in none line other (subst (λ (m : Node). ComeTogether v m l g line other) is come)
+
+-- so where lines come next not all are matched
+pub come_part : (v : Version) (l : Logs) (g : Cursors) (by : Tellers) (line : LogLine) (other : Option LogLine) → ComeBy by v l g line other
+    → AreMatched l g → ⊥
+come_part v l g (One x) line None come = next_part x l g line come.next
+come_part v l g (One x) line (Some other) come = absurd come
+come_part v l g (Both n) line None come = absurd come
+come_part v l g (Both n) line (Some other) come = next_part C l g line come.client
 
 -- a log has no more lines than all have room for steps
 pub log_few : (x : Actor) (l : Logs) → length (log_of x l) ≤ step_count l
@@ -194,12 +254,23 @@ way_fewer sc l s cs to many way part =
     let is = along sc l at_start s cs to many (within_start l) way in
     omega (arith, is.more, possible_fewer l to many is.within part)
 
--- where each line names a transaction that is there, each choice that leads on does
-leads_named : (count : ℕ) (l : Logs) (g : Cursors) (o : Observation) (to : Cursors) → ((x : Actor) → AreLinesOf count x (log_of x l)) → Leads count l g o to
-    → names_below count o.entry.choice ≡ true
-leads_named count l g o to lines leads =
+-- where each line names a transaction that is there, those that come next do
+pub come_named : (v : Version) (l : Logs) (g : Cursors) (count : ℕ) (by : Tellers) (line : LogLine) (other : Option LogLine)
+    → ((x : Actor) → AreLinesOf count x (log_of x l)) → ComeBy by v l g line other → names_below count line.choice ≡ true
+come_named v l g count (One x) line None are come = (are x (cursor x g) line come.next).named
+come_named v l g count (One x) line (Some other) are come = absurd come
+come_named v l g count (Both n) line None are come = absurd come
+come_named v l g count (Both n) line (Some other) are come = (are C (cursor C g) line come.client).named
+
+-- so does each choice that leads on
+leads_named : (sc : Scenario) (l : Logs) (g : Cursors) (o : Observation) (to : Cursors)
+    → ((x : Actor) → AreLinesOf (length sc.programs) x (log_of x l)) → Leads sc l g o to → names_below (length sc.programs) o.entry.choice ≡ true
+leads_named sc l g o to are leads =
+    let count = length sc.programs in
     elim leads [
-      | inl by ↦ subst (λ (d : Choice). names_below count d ≡ true) by.0.choice ((lines (actor_of o.entry.choice) _ by.0.line by.0.next).1)
+      | inl by ↦
+          let lines = by.0.lines in
+          subst (λ (d : Choice). names_below count d ≡ true) by.0.choice (come_named sc.version l g count lines.by lines.line lines.other are by.0.next)
       | inr by ↦ by.0.named
     ]
 
@@ -209,19 +280,19 @@ pub way_named : (sc : Scenario) (l : Logs) (g : Cursors) (s : State) (cs : List 
     → AreNamed (length sc.programs) cs
 way_named sc l g s [] to lines way = tt
 way_named sc l g s (c ∷ cs) to lines way =
-    (leads_named (length sc.programs) l g (observation_at sc s c) way.0 lines way.1, way_named sc l way.0 (step sc c s).after cs to lines way.2)
+    (leads_named sc l g (observation_at sc s c) way.0 lines way.1, way_named sc l way.0 (step sc c s).after cs to lines way.2)
 
 -- a way goes on by a step
 pub way_push : (sc : Scenario) (l : Logs) (g : Cursors) (s : State) (cs : List Choice) (to : Cursors) (c : Choice) (on : Cursors) → IsWay sc l g s cs to
-    → Leads (length sc.programs) l to (observation_at sc (play sc s cs) c) on
+    → Leads sc l to (observation_at sc (play sc s cs) c) on
     → IsWay sc l g s (cs ++ c ∷ []) on
 way_push sc l g s [] to c on way leads =
-    (on, subst (λ (f : Cursors). Leads (length sc.programs) l f (observation_at sc s c) on) (sym way) leads, refl)
+    (on, subst (λ (f : Cursors). Leads sc l f (observation_at sc s c) on) (sym way) leads, refl)
 way_push sc l g s (d ∷ cs) to c on way leads = (way.0, way.1, way_push sc l way.0 (step sc d s).after cs to c on way.2 leads)
 
 -- so a way that a step may follow has fewer choices than the logs have room for steps
 pub way_room : (sc : Scenario) (l : Logs) (s : State) (cs : List Choice) (to : Cursors) (c : Choice) (on : Cursors) → HaveGaps l
-    → IsWay sc l at_start s cs to → Leads (length sc.programs) l to (observation_at sc (play sc s cs) c) on
+    → IsWay sc l at_start s cs to → Leads sc l to (observation_at sc (play sc s cs) c) on
     → length cs < step_count l
 way_room sc l s cs to c on many way leads =
     omega (arith, way_few sc l s (cs ++ c ∷ []) on many (way_push sc l at_start s cs to c on way leads), length-append cs (c ∷ []))

@@ -1,6 +1,9 @@
 -- Worked logs: which orders of their lines fit, computed.
-use Rattle.std.proofs.Common.{◌≡◌, ℕ, List, [], ◌∷◌, Option, None, Some, refl, ap, arith}
+use Rattle.std.proofs.Common.{◌≡◌, ℕ, inl, inr, List, [], ◌∷◌, Option, None, Some, refl, map, ap, arith}
 use Rattle.std.proofs.lemmas.Bool.{false≢true}
+use Rattle.zy_isa.specs.Choices.{actor_of}
+use Rattle.zy_isa.specs.declared.node.Actor.{Actor}
+use Rattle.zy_isa.specs.declared.version.Version.{Version}
 use Rattle.zy_isa.specs.declared.version.Version.TheVariants.{One}
 use Rattle.zy_isa.specs.declared.node.Node.TheVariants.{A, B}
 use Rattle.zy_isa.specs.declared.node.Actor.TheVariants as actor
@@ -20,7 +23,8 @@ use Rattle.zy_table.specs.Take.{arrival_step, pull_step, message_step, front_ste
 use Rattle.zy_table.specs.Play.{move, step, opening_leaves, opening}
 use Rattle.zy_logs.specs.declared.log_line.LogLine.{LogLine}
 use Rattle.zy_order.specs.Gaps.{IsMissing, FillsGap, Completes}
-use Rattle.zy_order.specs.Orders.{Fits}
+use Rattle.zy_order.specs.Twins.{AreTwins, HasTwin}
+use Rattle.zy_order.specs.Orders.{ToldStep, AreWhole, Fits, lines_of}
 
 -- opens the lines of the table that the examples use
 unfoldable table : ℕ
@@ -32,29 +36,41 @@ table = 0
 abbrev one : Scenario
 one = record { version = One; cap = 4; pages = 1; rule = Held; rows = []; programs = (Set R0 10 ∷ Commit ∷ []) ∷ []; choices = [] }
 
+-- a line alone
+abbrev alone : LogLine → ToldStep
+alone line = record { line = line; other = None }
+
+-- logs without a line
+abbrev nowhere : Actor → List LogLine
+nowhere x = []
+
+-- they have no twin
+no_twins : {v : Version} {line : LogLine} → HasTwin v nowhere line → ⊥
+no_twins twin = absurd (omega (arith, twin.1.2))
+
 -- ---- two lines of A and one of the client
 
 -- the transaction begins at A
 abbrev begins : LogLine
-begins = record { choice = Begin 0; told = Some (pattern.Began (Some A)); value = None; sent = None }
+begins = record { log = actor_of (Begin 0); choice = Begin 0; told = Some (pattern.Began (Some A)); value = None; sent = None; rows = None }
 
 -- a run of it at A, of which this came
 abbrev run : Option OutcomePattern → LogLine
-run came = record { choice = Run A 0; told = came; value = None; sent = None }
+run came = record { log = actor_of (Run A 0); choice = Run A 0; told = came; value = None; sent = None; rows = None }
 
 -- the lines of A, and then that of the client
 abbrev lines : List LogLine
 lines = run (Some pattern.Did) ∷ run (Some (pattern.Committed (Some 1))) ∷ begins ∷ []
 
 -- the client's line comes first: they fit
-client_first : Fits one (opening one) (begins ∷ run (Some pattern.Did) ∷ run (Some (pattern.Committed (Some 1))) ∷ [])
+client_first : Fits one nowhere (opening one) (alone begins ∷ alone (run (Some pattern.Did)) ∷ alone (run (Some (pattern.Committed (Some 1)))) ∷ [])
 unfolding table
-client_first = ((refl, tt, tt), ((refl, tt, tt), ((refl, tt, tt), tt)))
+client_first = (no_twins, ((refl, tt, tt, tt, inl refl), tt), (no_twins, ((refl, tt, tt, tt, inl refl), tt), (no_twins, ((refl, tt, tt, tt, inl refl), tt), tt)))
 
 -- the lines as they stand do not fit: the transaction has not begun, and the run is idle
-client_last : Fits one (opening one) lines → ⊥
+client_last : Fits one nowhere (opening one) (map alone lines) → ⊥
 unfolding table
-client_last fits = absurd (false≢true fits.0.0)
+client_last fits = absurd (false≢true fits.1.0.0)
 
 -- ---- gaps
 
@@ -89,52 +105,93 @@ too_many gap = absurd (omega (arith, gap.few))
 -- ---- an unknown outcome
 
 -- a run without an outcome fits where the transaction has not begun
-idle_first : Fits one (opening one) (run None ∷ begins ∷ [])
+idle_first : Fits one nowhere (opening one) (alone (run None) ∷ alone begins ∷ [])
 unfolding table
-idle_first = ((tt, tt, tt), ((refl, tt, tt), tt))
+idle_first = (no_twins, ((tt, tt, tt, tt, inl refl), tt), (no_twins, ((refl, tt, tt, tt, inl refl), tt), tt))
 
 -- and where it has
-begun_first : Fits one (opening one) (begins ∷ run None ∷ [])
+begun_first : Fits one nowhere (opening one) (alone begins ∷ alone (run None) ∷ [])
 unfolding table
-begun_first = ((refl, tt, tt), ((tt, tt, tt), tt))
+begun_first = (no_twins, ((refl, tt, tt, tt, inl refl), tt), (no_twins, ((tt, tt, tt, tt, inl refl), tt), tt))
 
 -- ---- a value
 
 -- the run that sets the register, with a value
 abbrev shows : ℕ → LogLine
-shows v = record { choice = Run A 0; told = Some pattern.Did; value = Some v; sent = None }
+shows v = record { log = actor_of (Run A 0); choice = Run A 0; told = Some pattern.Did; value = Some v; sent = None; rows = None }
 
 -- it is set to 10
-set_to_ten : Fits one (opening one) (begins ∷ shows 10 ∷ [])
+set_to_ten : Fits one nowhere (opening one) (alone begins ∷ alone (shows 10) ∷ [])
 unfolding table
-set_to_ten = ((refl, tt, tt), ((refl, refl, tt), tt))
+set_to_ten = (no_twins, ((refl, tt, tt, tt, inl refl), tt), (no_twins, ((refl, refl, tt, tt, inl refl), tt), tt))
 
 -- so no other value fits
-not_to_seven : Fits one (opening one) (begins ∷ shows 7 ∷ []) → ⊥
+not_to_seven : Fits one nowhere (opening one) (alone begins ∷ alone (shows 7) ∷ []) → ⊥
 unfolding table
-not_to_seven fits = let value : Some 10 ≡ Some 7 = fits.1.0.1 in absurd (cc value)
+not_to_seven fits = let value : Some 10 ≡ Some 7 = fits.2.1.0.1 in absurd (cc value)
 
 -- ---- a message
 
 -- a migration starts
 abbrev starts : LogLine
-starts = record { choice = Start; told = Some pattern.Started; value = None; sent = Some kind.Wire }
+starts = record { log = actor_of (Start); choice = Start; told = Some pattern.Started; value = None; sent = Some kind.Wire; rows = None }
 
 -- B takes the wireframe, and this message was logged, or none
 abbrev takes : Option Kind → LogLine
-takes sent = record { choice = Take B; told = Some pattern.GotWire; value = None; sent = sent }
+takes sent = record { log = actor_of (Take B); choice = Take B; told = Some pattern.GotWire; value = None; sent = sent; rows = None }
 
 -- it sends ready, as was logged
-sends_ready : Fits one (opening one) (starts ∷ takes (Some kind.Ready) ∷ [])
+sends_ready : Fits one nowhere (opening one) (alone starts ∷ alone (takes (Some kind.Ready)) ∷ [])
 unfolding table
-sends_ready = ((refl, tt, refl), ((refl, tt, refl), tt))
+sends_ready = (no_twins, ((refl, tt, refl, tt, inl refl), tt), (no_twins, ((refl, tt, refl, tt, inl refl), tt), tt))
 
 -- a line without a message agrees with that too
-says_nothing : Fits one (opening one) (starts ∷ takes None ∷ [])
+says_nothing : Fits one nowhere (opening one) (alone starts ∷ alone (takes None) ∷ [])
 unfolding table
-says_nothing = ((refl, tt, refl), ((refl, tt, tt), tt))
+says_nothing = (no_twins, ((refl, tt, refl, tt, inl refl), tt), (no_twins, ((refl, tt, tt, tt, inl refl), tt), tt))
 
 -- one with another message does not
-sends_no_dual : Fits one (opening one) (starts ∷ takes (Some kind.Dual) ∷ []) → ⊥
+sends_no_dual : Fits one nowhere (opening one) (alone starts ∷ alone (takes (Some kind.Dual)) ∷ []) → ⊥
 unfolding table
-sends_no_dual fits = let sent : Some kind.Ready ≡ Some kind.Dual = fits.1.0.2 in absurd (cc sent)
+sends_no_dual fits = let sent : Some kind.Ready ≡ Some kind.Dual = fits.2.1.0.2 in absurd (cc sent)
+
+-- ---- two lines of one step
+
+-- the begin, in a node's log, too
+abbrev begins_at : Actor → LogLine
+begins_at x = record begins { log = x }
+
+-- lines of the client's log and of A's are one step
+both : Fits one nowhere (opening one) (record { line = begins; other = Some (begins_at actor.A) } ∷ [])
+unfolding table
+both = (
+  record { node = A; client = refl; stands = refl; may = record { choice = refl; whole = λ twin. absurd (no_twins twin) } },
+  ((refl, tt, tt, tt, inl refl), (refl, tt, tt, tt, inr refl)),
+  tt,
+)
+
+-- the line may stand in A's log alone
+in_log_of_a : Fits one nowhere (opening one) (alone (begins_at actor.A) ∷ [])
+unfolding table
+in_log_of_a = (no_twins, ((refl, tt, tt, tt, inr refl), tt), tt)
+
+-- in B's log it does not, since the transaction begins at A
+not_of_b : Fits one nowhere (opening one) (alone (begins_at actor.B) ∷ []) → ⊥
+unfolding table
+not_of_b fits = elim fits.1.0.4 [
+  | inl own ↦ absurd (cc own)
+  | inr there ↦ absurd (cc there)
+]
+
+-- the two lines are twins
+twins : AreTwins One begins (begins_at actor.A)
+twins = record {
+  logs = λ e. absurd (cc e);
+  choice = refl;
+  first = record { what = pattern.Began (Some A); told = refl; once = refl };
+  second = record { what = pattern.Began (Some A); told = refl; once = refl };
+}
+
+-- so with both in the logs the client's does not come alone
+not_apart : AreWhole One (λ x. lines_of x (begins ∷ begins_at actor.A ∷ [])) begins None → ⊥
+not_apart whole = whole (actor.A, (0, begins_at actor.A, omega arith, refl, twins))

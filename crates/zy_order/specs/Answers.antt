@@ -9,6 +9,7 @@ use Rattle.zy_table.specs.State.{State}
 use Rattle.zy_machine.specs.Histories.{History}
 use Rattle.zy_goals.specs.Facts.{is_over}
 use Rattle.zy_search.specs.Searches.{reached}
+use Rattle.zy_logs.specs.Logs.{AreInLogs}
 use Rattle.zy_logs.specs.declared.log_line.LogLine.{LogLine}
 use Rattle.zy_order.specs.declared.answer.OrderAnswer.{OrderAnswer}
 use Rattle.zy_order.specs.declared.answer.OrderAnswer.TheVariants as answer
@@ -16,23 +17,24 @@ use Rattle.zy_order.specs.declared.end.End.{End}
 use Rattle.zy_order.specs.declared.end.End.TheVariants as end
 use Rattle.zy_order.specs.declared.gaps.Gaps.{Gaps}
 use Rattle.zy_order.specs.Gaps.{gaps_of, gap_count}
-use Rattle.zy_order.specs.Orders.{lines_of, IsOrder, IsPrefixOrder, choices_of}
+use Rattle.zy_order.specs.Orders.{ToldStep, lines_of, IsOrder, IsPrefixOrder, choices_of, choices_told}
 
--- the lines can be logs of steps that follow a machine's: each names a transaction, there is a gap before each line of an
--- actor and one behind the last, and the history has room for all steps
+-- the lines can be logs of steps that follow a machine's: each is of its log and names a transaction, there is a gap before each line of
+-- an actor and one behind the last, and the history has room for all steps
 pub record IsInput (h : History) (lines : List LogLine) (gaps : Gaps) : Type 0 where
+  pub logs : AreInLogs lines
   pub named : AreNamed (length h.scenario.programs) (choices_of lines)
   pub many : (x : Actor) → length (gaps_of x gaps) ≡ length (lines_of x lines) + 1
   pub room : length h.entries + (length lines + gap_count gaps) ≤ max_choices
 
 -- the choices of an order of the logs
 abbrev pub MatchesAll : History → List LogLine → Gaps → List Choice → Type 0
-MatchesAll h lines gaps cs = (order : List LogLine) × IsOrder h.scenario h.state lines gaps order × (cs ≡ choices_of order)
+MatchesAll h lines gaps cs = (order : List ToldStep) × IsOrder h.scenario h.state lines gaps order × (cs ≡ choices_told order)
 
 -- the choices of an order of prefixes of the logs
 abbrev pub MatchesPrefixes : History → List LogLine → Gaps → List Choice → Type 0
-MatchesPrefixes h lines gaps cs = (taken : Actor → ℕ) × (order : List LogLine)
-    × IsPrefixOrder h.scenario h.state lines gaps taken order × (cs ≡ choices_of order)
+MatchesPrefixes h lines gaps cs = (taken : Actor → ℕ) × (order : List ToldStep)
+    × IsPrefixOrder h.scenario h.state lines gaps taken order × (cs ≡ choices_told order)
 
 -- what is asked of the last state of an order
 abbrev pub HasEnd : End → State → Type 0
@@ -46,16 +48,16 @@ pub record MatchesWithEnd (h : History) (lines : List LogLine) (gaps : Gaps) (e 
 
 -- no order of the logs has this end
 abbrev pub HasNoneWithEnd : History → List LogLine → Gaps → End → Type 0
-HasNoneWithEnd h lines gaps e = (order : List LogLine) → IsOrder h.scenario h.state lines gaps order → HasEnd e (reached h (choices_of order)) → ⊥
+HasNoneWithEnd h lines gaps e = (order : List ToldStep) → IsOrder h.scenario h.state lines gaps order → HasEnd e (reached h (choices_told order)) → ⊥
 
 -- there are orders of the logs, one with these choices, and none has this end
 pub record HasOtherEnd (h : History) (lines : List LogLine) (gaps : Gaps) (e : End) (cs : List Choice) : Type 0 where
   pub all : MatchesAll h lines gaps cs
   pub none : HasNoneWithEnd h lines gaps e
 
--- no list of lines is an order of the logs
+-- no list of steps is an order of the logs
 abbrev pub HasNoOrder : History → List LogLine → Gaps → Type 0
-HasNoOrder h lines gaps = (order : List LogLine) → IsOrder h.scenario h.state lines gaps order → ⊥
+HasNoOrder h lines gaps = (order : List ToldStep) → IsOrder h.scenario h.state lines gaps order → ⊥
 
 -- how many lines of the logs of A and B together are taken
 abbrev pub node_lines : (Actor → ℕ) → ℕ
@@ -63,17 +65,17 @@ node_lines taken = taken A + taken B
 
 -- a furthest order of prefixes: none takes more lines of A and B together, and none that takes as many takes fewer of the
 -- client. Steps that the logs lack do not count
-pub record IsFurthest (h : History) (lines : List LogLine) (gaps : Gaps) (taken : Actor → ℕ) (order : List LogLine) : Type 0 where
+pub record IsFurthest (h : History) (lines : List LogLine) (gaps : Gaps) (taken : Actor → ℕ) (order : List ToldStep) : Type 0 where
   pub prefix : IsPrefixOrder h.scenario h.state lines gaps taken order
-  pub nodes : (others : Actor → ℕ) → (other : List LogLine) → IsPrefixOrder h.scenario h.state lines gaps others other
+  pub nodes : (others : Actor → ℕ) → (other : List ToldStep) → IsPrefixOrder h.scenario h.state lines gaps others other
       → node_lines others ≤ node_lines taken
-  pub client : (others : Actor → ℕ) → (other : List LogLine) → IsPrefixOrder h.scenario h.state lines gaps others other
+  pub client : (others : Actor → ℕ) → (other : List ToldStep) → IsPrefixOrder h.scenario h.state lines gaps others other
       → node_lines others ≡ node_lines taken → taken C ≤ others C
 
 -- the choices of a furthest order of prefixes of the logs
 abbrev pub MatchesFurthest : History → List LogLine → Gaps → List Choice → Type 0
-MatchesFurthest h lines gaps cs = (taken : Actor → ℕ) × (order : List LogLine) × IsFurthest h lines gaps taken order
-    × (cs ≡ choices_of order)
+MatchesFurthest h lines gaps cs = (taken : Actor → ℕ) × (order : List ToldStep) × IsFurthest h lines gaps taken order
+    × (cs ≡ choices_told order)
 
 -- there is no order, and the choices are those of a furthest order of prefixes of the logs
 pub record IsNowhere (h : History) (lines : List LogLine) (gaps : Gaps) (cs : List Choice) : Type 0 where

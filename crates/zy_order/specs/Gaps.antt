@@ -19,7 +19,7 @@ gap_count gaps = sum gaps.c.items + (sum gaps.a.items + sum gaps.b.items)
 
 -- the line of a step of which only the choice is known
 abbrev pub unlogged : Choice → LogLine
-unlogged c = record { choice = c; told = None; value = None; sent = None }
+unlogged c = record { log = actor_of c; choice = c; told = None; value = None; sent = None; rows = None }
 
 -- the line of a missing step: some choice of the actor, which names one of `count` transactions if it names one
 pub record IsMissing (count : ℕ) (x : Actor) (line : LogLine) : Type 0 where

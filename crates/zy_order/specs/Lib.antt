@@ -1,4 +1,5 @@
 pub mod Gaps
+pub mod Twins
 pub mod Orders
 pub mod Ways
 pub mod Answers

@@ -1,7 +1,6 @@
 -- What a search keeps, and what each of its parts adds.
 use Rattle.std.specs.Prelude.{ℕ, ◌≡◌, ◌≤◌, ◌<◌, ◌+◌, ◌^◌, ◌⊎◌, ◌++◌, List, [], ◌∷◌, Option, None, Some, Bool, true, false, length}
 use Rattle.std.specs.Prelude.{Contains}
-use Rattle.std.specs.Prelude.{slice_get}
 use Rattle.zy_isa.specs.Limits.{max_choices}
 use Rattle.zy_isa.specs.declared.node.Actor.{Actor}
 use Rattle.zy_isa.specs.declared.node.Node.{Node}
@@ -13,7 +12,6 @@ use Rattle.zy_table.specs.State.{State}
 use Rattle.zy_table.specs.Play.{step}
 use Rattle.zy_table.specs.Observations.{observation_at}
 use Rattle.zy_machine.specs.Histories.{History, IsReplay}
-use Rattle.zy_logs.specs.Agrees.{Agrees}
 use Rattle.zy_patterns.specs.declared.patterns.OutcomePattern.{OutcomePattern}
 use Rattle.zy_patterns.specs.declared.patterns.OutcomePattern.TheVariants as pattern
 use Rattle.zy_logs.specs.declared.log_line.LogLine.{LogLine}
@@ -39,8 +37,12 @@ use Rattle.zy_order.specs.declared.line.Met.{Met}
 use Rattle.zy_order.specs.declared.line.Met.TheVariants as met
 use Rattle.zy_order.specs.Answers.{HasEnd}
 use Rattle.zy_order.specs.Gaps.{gaps_of}
-use Rattle.zy_order.specs.Ways.{log_of, cursor, at_start, cursors_in, advanced, with_missing, step_count}
-use Rattle.zy_order.specs.Ways.{IsNoFurther, NeedNoMore, AreMatched, HasNext, HasGap, Leads, IsWay, AreLinesOf}
+use Rattle.zy_order.specs.declared.tellers.StepLines.{StepLines}
+use Rattle.zy_order.specs.declared.tellers.Tellers.{Tellers}
+use Rattle.zy_order.specs.declared.tellers.Tellers.TheVariants.{One, Both}
+use Rattle.zy_order.specs.Orders.{Agree}
+use Rattle.zy_order.specs.Ways.{log_of, at_start, cursors_in, advanced_by, with_missing, step_count}
+use Rattle.zy_order.specs.Ways.{IsNoFurther, NeedNoMore, AreMatched, IsNextLine, ComeNext, TellNext, HasGap, Leads, IsWay, AreLinesOf}
 
 -- ---- what a search goes by
 
@@ -128,10 +130,14 @@ observation_by h r i c = observation_at h.scenario (reached h (path_at r.visited
 abbrev pub state_by : History → Reached → ℕ → Choice → State
 state_by h r i c = (step h.scenario c (reached h (path_at r.visited i))).after
 
--- where the path at a place leads, the next line of an actor does not fit, or a path leads where its choice does
-abbrev pub IsMet : History → Logs → Reached → ℕ → Actor → Type 0
-IsMet h logs r i x = (c : Choice) → actor_of c ≡ x → HasNext logs (cursors_at r i) (observation_by h r i c)
-    → IsKnown h r (advanced x (cursors_at r i)) (state_by h r i c)
+-- where the path at a place leads, the next lines of some logs do not fit, or a path leads where their choice does
+abbrev pub IsMet : History → Logs → Reached → ℕ → Tellers → Type 0
+IsMet h logs r i by = (c : Choice) → (tell : TellNext h.scenario.version logs (cursors_at r i) (observation_by h r i c)) → tell.lines.by ≡ by
+    → IsKnown h r (advanced_by by (cursors_at r i)) (state_by h r i c)
+
+-- the same of an actor's log alone and, if it is a node, of its log with the client's
+abbrev pub IsMetWith : History → Logs → Reached → ℕ → Actor → Type 0
+IsMetWith h logs r i x = IsMet h logs r i (One x) × ((n : Node) → x ≡ actor_at n → IsMet h logs r i (Both n))
 
 -- where the path at a place leads, a choice may not be that of a missing step, or a path leads where it does
 abbrev pub IsTried : History → Logs → Reached → ℕ → Choice → Type 0
@@ -144,7 +150,7 @@ AreTried h logs r i = (c : Choice) → names_below (length h.scenario.programs) 
 
 -- where the path at a place leads, the next line of each actor is met
 abbrev pub AreMet : History → Logs → Reached → ℕ → Type 0
-AreMet h logs r i = (x : Actor) → IsMet h logs r i x
+AreMet h logs r i = (x : Actor) → IsMetWith h logs r i x
 
 -- where the path at a place leads, each choice is tried as that of a missing step, and the next line of each actor is met
 pub record FollowsAll (h : History) (logs : Logs) (r : Reached) (i : ℕ) : Type 0 where
@@ -179,24 +185,33 @@ pub record TellsNothing (line : LogLine) : Type 0 where
   pub told : line.told ≡ Some what
   pub nothing : is_nothing what ≡ true
 
--- the next line of a node may be followed alone: it tells of a `run` that did, or that nothing came, and no step may be missing
--- before it
+-- the next line of a node may be followed alone: its choice is the node's, it tells of a `run` that did, or that nothing came, and no
+-- step may be missing before it
 pub record MayBeAlone (n : Node) (logs : Logs) (cursors : Cursors) (line : LogLine) : Type 0 where
-  pub next : slice_get (log_of (actor_at n) logs) (cursor (actor_at n) cursors) ≡ Some line
+  pub next : IsNextLine (actor_at n) logs cursors line
+  pub own : actor_of line.choice ≡ actor_at n
   pub tells : TellsDid line ⊎ TellsNothing line
   pub whole : HasGap (actor_at n) logs cursors → ⊥
 
--- where the path at a place leads, a line of an actor agrees with what the step of its choice shows, and a path leads where that does
-pub record LeadsOn (h : History) (r : Reached) (i : ℕ) (x : Actor) (line : LogLine) : Type 0 where
-  pub agrees : Agrees line (observation_by h r i line.choice)
-  pub known : IsKnown h r (advanced x (cursors_at r i)) (state_by h r i line.choice)
+-- where the path at a place leads, lines agree with what the step of their choice shows
+abbrev pub AgreeAt : History → Reached → ℕ → StepLines → Type 0
+AgreeAt h r i lines = Agree lines.line lines.other (observation_by h r i lines.line.choice)
+
+-- and a path leads where that step does
+pub record LeadsOn (h : History) (r : Reached) (i : ℕ) (lines : StepLines) : Type 0 where
+  pub agree : AgreeAt h r i lines
+  pub known : IsKnown h r (advanced_by lines.by (cursors_at r i)) (state_by h r i lines.line.choice)
+
+-- the line of a node's log, alone
+abbrev pub alone_at : Node → LogLine → StepLines
+alone_at n line = record { by = One (actor_at n); line = line; other = None }
 
 -- where the path at a place leads, a next line that may be followed alone leads on
 pub record FollowsAlone (h : History) (logs : Logs) (r : Reached) (i : ℕ) : Type 0 where
   pub node : Node
   pub line : LogLine
   pub may : MayBeAlone node logs (cursors_at r i) line
-  pub leads : LeadsOn h r i (actor_at node) line
+  pub leads : LeadsOn h r i (alone_at node line)
 
 -- all lines are matched, and the state has the end that is asked for
 pub record IsComplete (p : Plan) (cursors : Cursors) (s : State) : Type 0 where
@@ -254,26 +269,26 @@ pub record IsNext (h : History) (r : Reached) (at : ℕ) (c : Choice) (m : Histo
   pub state : m.state ≡ state_by h r at c
   pub longer : length m.entries ≡ length h.entries + length_at r.visited at + 1
 
--- what came of a line of an actor where the path at a place leads
-abbrev pub IsMetBy : History → Reached → ℕ → Actor → LogLine → Met → Type 0
-IsMetBy h r i x line met.Unfit = Agrees line (observation_by h r i line.choice) → ⊥
-IsMetBy h r i x line met.Known = LeadsOn h r i x line
-IsMetBy h r i x line met.Spent = Unit {0}
+-- what came of the lines of a step where the path at a place leads
+abbrev pub IsMetBy : History → Reached → ℕ → StepLines → Met → Type 0
+IsMetBy h r i lines met.Unfit = AgreeAt h r i lines → ⊥
+IsMetBy h r i lines met.Known = LeadsOn h r i lines
+IsMetBy h r i lines met.Spent = Unit {0}
 
 -- a branch leads on to cursors, and the twin has made its choice
 pub record GoesOn (p : Plan) (s : Search) (b : Branch) (to : Cursors) : Type 0 where
   pub search : IsSearch p s
   pub there : b.from < length s.reached.visited
-  pub leads : Leads (length p.start.scenario.programs) p.logs (cursors_at s.reached b.from) (observation_by p.start s.reached b.from b.by) to
+  pub leads : Leads p.start.scenario p.logs (cursors_at s.reached b.from) (observation_by p.start s.reached b.from b.by) to
   pub next : IsNext p.start s.reached b.from b.by s.twin
 
--- the twin has made the choice of an actor's next line where the path at a place leads, and this is what its step shows
-pub record HasMade (p : Plan) (s : Search) (at : ℕ) (x : Actor) (line : LogLine) (shown : Observation) : Type 0 where
+-- the twin has made the choice of lines that come next where the path at a place leads, and this is what its step shows
+pub record HasMade (p : Plan) (s : Search) (at : ℕ) (lines : StepLines) (shown : Observation) : Type 0 where
   pub search : IsSearch p s
   pub there : at < length s.reached.visited
-  pub next : slice_get (log_of x p.logs) (cursor x (cursors_at s.reached at)) ≡ Some line
-  pub made : IsNext p.start s.reached at line.choice s.twin
-  pub came : shown ≡ observation_by p.start s.reached at line.choice
+  pub next : ComeNext p.start.scenario.version p.logs (cursors_at s.reached at) lines
+  pub made : IsNext p.start s.reached at lines.line.choice s.twin
+  pub came : shown ≡ observation_by p.start s.reached at lines.line.choice
 
 -- a search went from old to new: each new path is to be followed, and each that was to be still is
 pub record Adds (p : Plan) (old new : Search) : Type 0 where

@@ -1,9 +1,11 @@
 -- Ways: choices that go along the logs, and in their gaps.
-use Rattle.std.specs.Prelude.{◌≡◌, ◌≤◌, ◌<◌, ◌⊎◌, ◌+◌, ℕ, List, [], ◌∷◌, Some, true, length, slice_get, slice_index_or}
+use Rattle.std.specs.Prelude.{◌≡◌, ◌≤◌, ◌<◌, ◌⊎◌, ◌+◌, ℕ, List, [], ◌∷◌, Option, None, Some, true, length, slice_get, slice_index_or}
 use Rattle.zy_isa.specs.declared.node.Actor.{Actor}
 use Rattle.zy_isa.specs.declared.node.Actor.TheVariants.{C, A, B}
 use Rattle.zy_isa.specs.declared.choice.Choice.{Choice}
-use Rattle.zy_isa.specs.Choices.{actor_of, names_below}
+use Rattle.zy_isa.specs.declared.node.Node.{Node}
+use Rattle.zy_isa.specs.declared.version.Version.{Version}
+use Rattle.zy_isa.specs.Choices.{actor_of, actor_at, names_below}
 use Rattle.zy_isa.specs.Scenario.{Scenario}
 use Rattle.zy_table.specs.declared.observation.Observation.{Observation}
 use Rattle.zy_table.specs.State.{State}
@@ -15,8 +17,11 @@ use Rattle.zy_order.specs.declared.cursors.Cursor.{Cursor}
 use Rattle.zy_order.specs.declared.cursors.Cursors.{Cursors}
 use Rattle.zy_order.specs.declared.gaps.Gaps.{Gaps}
 use Rattle.zy_order.specs.Gaps.{gaps_of, gap_count}
-use Rattle.zy_logs.specs.Agrees.{Agrees}
-use Rattle.zy_order.specs.Orders.{lines_of}
+use Rattle.zy_order.specs.declared.tellers.StepLines.{StepLines}
+use Rattle.zy_order.specs.declared.tellers.Tellers.{Tellers}
+use Rattle.zy_order.specs.declared.tellers.Tellers.TheVariants.{One, Both}
+use Rattle.zy_order.specs.Twins.{HasTwin}
+use Rattle.zy_order.specs.Orders.{lines_of, Agree, MayBeOne}
 
 -- the log of an actor
 abbrev pub log_of : Actor → Logs → List LogLine
@@ -121,12 +126,48 @@ pub record IsWithin (logs : Logs) (cursors : Cursors) : Type 0 where
   pub of_a : IsIn logs.a.items logs.gaps.a.items cursors.a
   pub of_b : IsIn logs.b.items logs.gaps.b.items cursors.b
 
--- the next line of the actor that made a step is of the step's choice, and agrees with what it shows
-pub record HasNext (logs : Logs) (cursors : Cursors) (o : Observation) : Type 0 where
-  pub line : LogLine
-  pub next : slice_get (log_of (actor_of o.entry.choice) logs) (cursor (actor_of o.entry.choice) cursors) ≡ Some line
-  pub choice : line.choice ≡ o.entry.choice
-  pub agrees : Agrees line o
+-- the line of an actor's log that comes next
+abbrev pub IsNextLine : Actor → Logs → Cursors → LogLine → Type 0
+IsNextLine x logs cursors line = slice_get (log_of x logs) (cursor x cursors) ≡ Some line
+
+-- a line comes next, and alone
+pub record ComesAlone (v : Version) (x : Actor) (logs : Logs) (cursors : Cursors) (line : LogLine) : Type 0 where
+  pub next : IsNextLine x logs cursors line
+  pub alone : HasTwin v (λ y. log_of y logs) line → ⊥
+
+-- the client's line and a node's come next, and may tell one step
+pub record ComeTogether (v : Version) (n : Node) (logs : Logs) (cursors : Cursors) (line other : LogLine) : Type 0 where
+  pub client : IsNextLine C logs cursors line
+  pub node : IsNextLine (actor_at n) logs cursors other
+  pub may : MayBeOne v (λ x. log_of x logs) line other
+
+-- these lines of some logs come next
+abbrev pub ComeBy : Tellers → Version → Logs → Cursors → LogLine → Option LogLine → Type 0
+ComeBy (One x) v logs cursors line None = ComesAlone v x logs cursors line
+ComeBy (One x) v logs cursors line (Some other) = ⊥
+ComeBy (Both n) v logs cursors line None = ⊥
+ComeBy (Both n) v logs cursors line (Some other) = ComeTogether v n logs cursors line other
+
+-- the lines of a step do
+abbrev pub ComeNext : Version → Logs → Cursors → StepLines → Type 0
+ComeNext v logs cursors lines = ComeBy lines.by v logs cursors lines.line lines.other
+
+-- the lines that come next are of a step's choice, and agree with what the step shows
+pub record TellNext (v : Version) (logs : Logs) (cursors : Cursors) (o : Observation) : Type 0 where
+  pub lines : StepLines
+  pub next : ComeNext v logs cursors lines
+  pub choice : lines.line.choice ≡ o.entry.choice
+  pub agree : Agree lines.line lines.other o
+
+-- the log of an actor is among them
+abbrev pub Tells : Tellers → Actor → Type 0
+Tells (One x) y = y ≡ x
+Tells (Both n) y = (y ≡ C) ⊎ (y ≡ actor_at n)
+
+-- the cursors where one line more of those logs is matched
+abbrev pub advanced_by : Tellers → Cursors → Cursors
+advanced_by (One x) cursors = advanced x cursors
+advanced_by (Both n) cursors = advanced (actor_at n) (advanced C cursors)
 
 -- one step more may be missing where an actor is
 abbrev pub HasGap : Actor → Logs → Cursors → Type 0
@@ -137,21 +178,26 @@ pub record MayBeMissing (count : ℕ) (logs : Logs) (cursors : Cursors) (c : Cho
   pub named : names_below count c ≡ true
   pub gap : HasGap (actor_of c) logs cursors
 
--- a step leads from cursors to others: it is the next line's, or it is missing
-abbrev pub Leads : ℕ → Logs → Cursors → Observation → Cursors → Type 0
-Leads count logs cursors o to = (HasNext logs cursors o × (to ≡ advanced (actor_of o.entry.choice) cursors))
-    ⊎ (MayBeMissing count logs cursors o.entry.choice × (to ≡ with_missing (actor_of o.entry.choice) cursors))
+-- a step leads from cursors to others: lines that come next tell it, or it is missing
+abbrev pub Leads : Scenario → Logs → Cursors → Observation → Cursors → Type 0
+Leads sc logs cursors o to = ((tell : TellNext sc.version logs cursors o) × (to ≡ advanced_by tell.lines.by cursors))
+    ⊎ (MayBeMissing (length sc.programs) logs cursors o.entry.choice × (to ≡ with_missing (actor_of o.entry.choice) cursors))
 
 -- choices go along the logs to cursors, one step after another
 abbrev pub IsWay : Scenario → Logs → Cursors → State → List Choice → Cursors → Type 0
 IsWay sc logs cursors s [] to = cursors ≡ to
-IsWay sc logs cursors s (c ∷ cs) to = (next : Cursors) × Leads (length sc.programs) logs cursors (observation_at sc s c) next
+IsWay sc logs cursors s (c ∷ cs) to = (next : Cursors) × Leads sc logs cursors (observation_at sc s c) next
     × IsWay sc logs next (step sc c s).after cs to
 
--- each line of a list is of a choice of the actor, and the transaction that it names is there
+-- a line is of an actor's log: it is of a choice of the actor, or of the client, and the transaction that it names is there
+pub record IsLineOf (count : ℕ) (x : Actor) (line : LogLine) : Type 0 where
+  pub log : line.log ≡ x
+  pub actor : (actor_of line.choice ≡ x) ⊎ (actor_of line.choice ≡ C)
+  pub named : names_below count line.choice ≡ true
+
+-- each line of a list is
 abbrev pub AreLinesOf : ℕ → Actor → List LogLine → Type 0
-AreLinesOf count x lines = (i : ℕ) → (line : LogLine) → slice_get lines i ≡ Some line
-    → (actor_of line.choice ≡ x) × (names_below count line.choice ≡ true)
+AreLinesOf count x lines = (i : ℕ) → (line : LogLine) → slice_get lines i ≡ Some line → IsLineOf count x line
 
 -- the logs have the lines of their actors, and the gaps
 pub record AreLogs (lines : List LogLine) (gaps : Gaps) (logs : Logs) : Type 0 where

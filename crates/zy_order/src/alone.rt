@@ -11,6 +11,7 @@ use crate::logs::Logs;
 use crate::placed_machine::PlacedMachine;
 use crate::plan::Plan;
 use crate::search::Search;
+use crate::tellers::{StepLines, Tellers};
 use zy_isa::{Actor, Choice, Node};
 use zy_logs::LogLine;
 use zy_machine::Fault;
@@ -57,9 +58,10 @@ fn next_alone(logs: &Logs, cursors: Cursors, node: Node) -> Option<LogLine>
     if logs.has_gap(cursors, actor) {
         return None;
     }
-    let Some(line) = logs.next(cursors, actor) else {
+    let line = logs.next(cursors, actor)?;
+    if line.choice.actor() != actor {
         return None;
-    };
+    }
     if !tells_did(&line) && !tells_nothing(&line) {
         return None;
     }
@@ -86,7 +88,9 @@ impl Search {
         let Some(line) = next_alone(&plan.logs, self.reached.cursors_at(at), node) else {
             return Ok(Met::Unfit);
         };
-        self.meet_in_place(plan, at, machine, Actor::of(node), &line)
+        let by = Tellers::One(Actor::of(node));
+        let other = None;
+        self.meet_in_place(plan, at, machine, &StepLines { by, line, other })
     }
 
     /// Follows the next line of A from the path at a place, if it may be followed alone and fits, or else that of B. Otherwise the

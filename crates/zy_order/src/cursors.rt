@@ -1,8 +1,10 @@
 //! How far each actor is in its log.
 ghost use Rattle.std.specs.Prelude.{◌≡◌, ◌<◌, false, true};
+ghost use Rattle.zy_isa.specs.declared.node.Actor.{Actor as AnActor};
 ghost use Rattle.zy_isa.specs.Integers.{max_u16};
 ghost use Rattle.zy_order.specs.Ways as spec;
 
+use crate::tellers::Tellers;
 use zy_isa::Actor;
 
 /// How far an actor is in its log.
@@ -100,11 +102,22 @@ impl Cursors {
     }
 
     /// The cursors where one line more of an actor is matched.
-    pub(crate) fn advanced(self, actor: Actor) -> Cursors
+    fn advanced(self, actor: Actor) -> Cursors
         requires { spec.cursor actor self < max_u16 }
         ensures { result ≡ spec.advanced actor self }
     {
         self.with(actor, self.of(actor).passed())
+    }
+
+    /// The cursors where one line more of the logs that tell a step is matched.
+    pub(crate) fn advanced_by(self, by: Tellers) -> Cursors
+        requires { (x : AnActor) → spec.Tells by x → spec.cursor x self < max_u16 }
+        ensures { result ≡ spec.advanced_by by self }
+    {
+        match by {
+            Tellers::One(actor) => self.advanced(actor),
+            Tellers::Both(node) => self.advanced(Actor::C).advanced(Actor::of(node)),
+        }
     }
 
     /// The cursors where an actor has made one step more that its log lacks.

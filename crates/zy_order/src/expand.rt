@@ -1,36 +1,56 @@
 //! What the next lines and missing steps lead to where a path leads.
 ghost use Rattle.std.specs.Prelude.{◌≡◌, IfOk, OnOk, true};
 ghost use Rattle.zy_order.specs.Machines.{IsPlaced};
-ghost use Rattle.zy_order.specs.Reaches.{cursors_at, IsMet, AreMet, FollowsAll, IsComplete, IsFollowed, IsAt, IsDue, StandsAt, Adds};
+ghost use Rattle.zy_order.specs.Reaches.{cursors_at, IsMet, IsMetWith, AreMet, FollowsAll, IsComplete, IsFollowed, IsAt, IsDue, StandsAt, Adds};
 
 use crate::line::Met;
 use crate::placed_machine::PlacedMachine;
 use crate::plan::Plan;
 use crate::search::{Position, Search};
+use crate::tellers::Tellers;
 use crate::turns::turns_by;
 use crate::walk::go_to;
-use zy_isa::Actor;
+use zy_isa::{Actor, Node};
 use zy_machine::Fault;
 
 impl Search {
-    /// Meets the next line of an actor at a position. It answers no where there is no room for what it leads to.
-    fn meet(&mut self, here: Position, actor: Actor) -> Result<bool, Fault>
+    /// Meets the lines of these logs that come next at a position. It answers no where there is no room for what they lead to.
+    fn meet(&mut self, here: Position, by: Tellers) -> Result<bool, Fault>
         requires { IsAt here self.old }
         ensures adds { OnOk result (Adds here.entry.plan.now self.old self.new) }
         ensures met { let p = here.entry.plan.now in
-            IfOk result (λ b. b ≡ true → IsMet p.start p.logs self.new.reached here.entry.at actor) }
+            IfOk result (λ b. b ≡ true → IsMet p.start p.logs self.new.reached here.entry.at by) }
     {
-        let Some(line) = here.plan.logs.next(self.reached.cursors_at(here.at), actor) else {
+        let version = here.plan.start.scenario().version();
+        let cursors = self.reached.cursors_at(here.at);
+        let Some(lines) = here.plan.logs.next_by(version, cursors, by) else {
             return Ok(true);
         };
-        match self.meet_line(here, actor, &line)? {
+        match self.meet_lines(here, &lines)? {
             Met::Unfit => Ok(true),
             Met::Known => Ok(true),
             Met::Spent => Ok(false),
         }
     }
 
-    /// Meets each actor's next line.
+    /// Meets the next line of an actor, and that of a node with the client's.
+    fn meet_with(&mut self, here: Position, actor: Actor) -> Result<bool, Fault>
+        requires { IsAt here self.old }
+        ensures adds { OnOk result (Adds here.entry.plan.now self.old self.new) }
+        ensures met { let p = here.entry.plan.now in
+            IfOk result (λ b. b ≡ true → IsMetWith p.start p.logs self.new.reached here.entry.at actor) }
+    {
+        if !self.meet(here, Tellers::One(actor))? {
+            return Ok(false);
+        }
+        match actor {
+            Actor::C => Ok(true),
+            Actor::A => self.meet(here, Tellers::Both(Node::A)),
+            Actor::B => self.meet(here, Tellers::Both(Node::B)),
+        }
+    }
+
+    /// Meets each actor's next line, alone or with the client's.
     fn meet_each(&mut self, here: Position) -> Result<bool, Fault>
         requires { IsAt here self.old }
         ensures adds { OnOk result (Adds here.entry.plan.now self.old self.new) }
@@ -38,13 +58,13 @@ impl Search {
             IfOk result (λ b. b ≡ true → AreMet p.start p.logs self.new.reached here.entry.at) }
     {
         let turns = turns_by(&here.plan.logs, self.reached.cursors_at(here.at));
-        if !self.meet(here, turns.first)? {
+        if !self.meet_with(here, turns.first)? {
             return Ok(false);
         }
-        if !self.meet(here, turns.second)? {
+        if !self.meet_with(here, turns.second)? {
             return Ok(false);
         }
-        self.meet(here, turns.third)
+        self.meet_with(here, turns.third)
     }
 
     /// Makes each choice that may be that of a missing step, and then that of each actor's next line, at a position. It

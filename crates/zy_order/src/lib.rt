@@ -21,12 +21,15 @@ mod plan;
 mod reached;
 mod recent_machines;
 mod search;
+mod tellers;
 mod turns;
+pub mod twins;
 mod visited;
 mod walk;
 
 pub use crate::answer::{OrderAnswer, OrderReport, Taken};
 pub use crate::end::End;
 pub use crate::gaps::Gaps;
+pub use crate::twins::are_twins;
 pub use zy_logs::LogLine;
 pub use zy_search::Watch;

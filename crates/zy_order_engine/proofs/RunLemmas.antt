@@ -10,11 +10,12 @@ use Rattle.zy_isa.specs.Choices.{actor_of, names_below}
 use Rattle.zy_isa.specs.Limits.{max_choices}
 use Rattle.zy_isa.specs.Scenario.{Scenario, IsScenario, AreNamed}
 use Rattle.zy_table.specs.State.{State, Step}
-use Rattle.zy_isa.specs.declared.choice.Choice.TheVariants.{Run}
+use Rattle.zy_isa.specs.declared.choice.Choice.TheVariants.{Run, Start}
+use Rattle.zy_isa.specs.declared.node.Node.{Node}
 use Rattle.zy_isa.specs.declared.instr.Reg.{Reg}
 use Rattle.zy_table.specs.declared.observation.Observation.{Observation}
-use Rattle.zy_table.specs.Play.{step, play, opening, entry_of}
-use Rattle.zy_table.specs.Observations.{observation_at, observations, register_of, value_after}
+use Rattle.zy_table.specs.Play.{step, play, opening, side_of, entry_of}
+use Rattle.zy_table.specs.Observations.{observation_at, observations, register_of, value_after, rows_after, client_node}
 use Rattle.zy_laws.specs.Orders.{reordered}
 use Rattle.zy_laws.proofs.walk.Reordered.{one, opening-reordered}
 use Rattle.zy_logs.specs.declared.log_line.LogLine.{LogLine}
@@ -41,12 +42,28 @@ register-reordered : (sc : Scenario) (order : List Choice) (s : State) (c : Choi
 register-reordered sc order s (Run n t) = refl
 register-reordered sc order s c = refl
 
+-- nor does the side from which it is made
+side-reordered : (sc : Scenario) (order : List Choice) (s : State) (c : Choice) → side_of (reordered sc order) c s ≡ side_of sc c s
+side-reordered sc order s Start = refl
+side-reordered sc order s c = refl
+
+-- what the step of a choice shows, by its register and its side
+abbrev shown : Choice → Step → Option Reg → Node → Observation
+shown c x r side = record {
+  entry = entry_of c x;
+  value = value_after c x.after x.outcome r;
+  rows = rows_after x.after x.outcome;
+  node = client_node c side x.outcome;
+}
+
 -- nor does what a step shows
 observation-reordered : (sc : Scenario) (order : List Choice) (s : State) (c : Choice) → observation_at (reordered sc order) s c ≡ observation_at sc s c
 observation-reordered sc order s c =
-    ap (λ (x : Step). record { entry = entry_of c x; value = value_after c x.after x.outcome (register_of (reordered sc order) s c) }) (one sc order c s)
-    ∙ ap (λ (r : Option Reg). record { entry = entry_of c (step sc c s); value = value_after c (step sc c s).after (step sc c s).outcome r })
-    (register-reordered sc order s c)
+    let re = reordered sc order in
+    let x = step sc c s in
+    ap (λ (y : Step). shown c y (register_of re s c) (side_of re c s)) (one sc order c s)
+    ∙ (ap (λ (r : Option Reg). shown c x r (side_of re c s)) (register-reordered sc order s c)
+    ∙ ap (shown c x (register_of sc s c)) (side-reordered sc order s c))
 
 -- nor what many show
 observations-reordered : (sc : Scenario) (order : List Choice) (s : State) (cs : List Choice)

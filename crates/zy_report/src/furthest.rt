@@ -7,11 +7,11 @@ use crate::summary::Count;
 use std::alloc::{AllocError, Global};
 use std::fmt::{self, Formatter, Write};
 use zy_io::{Decimal, Line, LineBuffer, joined};
-use zy_isa::{Actor, Choice, MAX_CHOICES};
-use zy_listing::StepLine;
+use zy_isa::{Actor, Choice, MAX_CHOICES, Version};
+use zy_listing::{Rows, StepLine};
 use zy_logs::{LogLine, Logged, NumberedLine};
 use zy_machine::{Fault, Machine};
-use zy_order::Taken;
+use zy_order::{Taken, are_twins};
 use zy_order_engine::{LogFormat, OrderedLogs};
 use zy_source_words::{Position, SourceLine};
 use zy_table::{Entry, Observation, Outcome};
@@ -32,10 +32,10 @@ struct NumberedStep {
     step: LogLine,
 }
 
-/// The step that a line has, if it is one of an actor.
+/// The step that a line tells, if it stands in the log of an actor.
 fn step_by(line: &NumberedLine, actor: Actor) -> Option<NumberedStep> {
     match line.logged {
-        Logged::Step(step) if step.choice.actor() == actor => Some(NumberedStep {
+        Logged::Step(step) if step.log == actor => Some(NumberedStep {
             number: line.number,
             step,
         }),
@@ -48,7 +48,7 @@ fn all_of(lines: &[NumberedLine]) -> Taken {
     let mut all = Taken { c: 0, a: 0, b: 0 };
     for line in lines {
         if let Logged::Step(step) = line.logged {
-            let count = match step.choice.actor() {
+            let count = match step.log {
                 Actor::C => &mut all.c,
                 Actor::A => &mut all.a,
                 Actor::B => &mut all.b,
@@ -192,8 +192,9 @@ impl<'a> Furthest<'a> {
         Ok(None)
     }
 
-    /// Says on standard error which next lines do not fit, and what the table gives; last those that may only come too early.
-    /// Where each fits, only lines of the client are left, and the first of them that does not fit behind the others is named.
+    /// Says on standard error which next lines do not fit, and what the table gives. Behind them come lines of nodes whose twin does not
+    /// come next, and last those that may only come too early. If none is named, only lines of the client are left, and the first of
+    /// them that does not fit behind the others is named.
     pub fn tell<R: Eprint + AllocGlobal>(&self, rt: &R, file: Option<&str>, input: &[u8]) {
         let alloc = rt.alloc();
         let unfit = [
@@ -201,16 +202,45 @@ impl<'a> Furthest<'a> {
             self.unfit(alloc, Actor::A),
             self.unfit(alloc, Actor::B),
         ];
-        let mut is_named = false;
-        for may_be_early in [false, true] {
-            for next in &unfit {
-                is_named |= next.is_some();
-                self.tell_if(rt, file, input, next, may_be_early);
-            }
+        for next in &unfit {
+            self.tell_if(rt, file, input, next, false);
+        }
+        let mut is_named = self.tell_apart(rt, file, input, Actor::A);
+        is_named |= self.tell_apart(rt, file, input, Actor::B);
+        for next in &unfit {
+            is_named |= next.is_some();
+            self.tell_if(rt, file, input, next, true);
         }
         if !is_named {
             self.tell_later(rt, file, input);
         }
+    }
+
+    /// Says that the next line of a node tells the step of a line of the client that does not come next, if it fits and does. Whether it
+    /// said so.
+    fn tell_apart<R: Eprint + AllocGlobal>(
+        &self,
+        rt: &R,
+        file: Option<&str>,
+        input: &[u8],
+        actor: Actor,
+    ) -> bool {
+        let Some(line) = self.next(actor) else {
+            return false;
+        };
+        let version = self.machine.scenario().version();
+        let Some(twin) = twin_of(version, self.lines, line.step) else {
+            return false;
+        };
+        if self.unfit(rt.alloc(), actor).is_some() {
+            return false;
+        }
+        let apart = Apart {
+            told: ToldLine::of(self.logs, file, input, line.number),
+            twin: ToldLine::of(self.logs, None, input, twin.number),
+        };
+        let _ = eprintln!(rt; "{apart}");
+        true
     }
 
     /// Says what the table gives in the place of a line, if there is one, and it may only come too early or may not.
@@ -274,27 +304,14 @@ impl<'a> Furthest<'a> {
         line: NumberedStep,
         shown: &Observation,
     ) {
-        // A step that shows a value sends no message.
-        let value = line.step.value.and(shown.value);
-        if let Ok(step) = step_line(rt.alloc(), &shown.entry, value) {
+        if let Ok(step) = step_line(rt.alloc(), &line.step, shown) {
             let unfit = Unfit {
-                file,
-                number: line.number,
-                bytes: told_bytes(self.logs, input, line.number),
+                told: ToldLine::of(self.logs, file, input, line.number),
                 came: behind_arrow(step.as_bytes()),
                 may_be_early: self.may_be_early(&shown.entry),
             };
             let _ = eprintln!(rt; "{unfit}");
         }
-    }
-}
-
-/// What a line of an input says: its bytes, of a text without the comment.
-fn told_bytes(logs: LogFormat, input: &[u8], number: usize) -> &[u8] {
-    let source = SourceLine::of(input, number);
-    match logs {
-        LogFormat::Text => source.statement().bytes,
-        LogFormat::Json => source.bytes,
     }
 }
 
@@ -322,12 +339,21 @@ fn did_otherwise(machine: &mut Machine, line: LogLine) -> Result<Option<Observat
     }
 }
 
-/// A step as a listing has it, and a value behind it, if there is one.
-fn step_line(alloc: Global, entry: &Entry, value: Option<u32>) -> Result<LineBuffer, AllocError> {
+/// A step as a listing has it. Behind it come the value and the rows that it shows, if the line of a log tells any.
+fn step_line(
+    alloc: Global,
+    told: &LogLine,
+    shown: &Observation,
+) -> Result<LineBuffer, AllocError> {
     let mut line = LineBuffer::new(alloc);
+    let entry = &shown.entry;
     StepLine { number: 1, entry }.append(&mut line)?;
-    if let Some(value) = value {
+    // A step that shows a value sends no message.
+    if let (Some(_), Some(value)) = (told.value, shown.value) {
         joined!(" ", Decimal(value)).append(&mut line)?;
+    }
+    if let (Some(_), Some(rows)) = (&told.rows, &shown.rows) {
+        joined!(" rows", Rows(rows.as_slice())).append(&mut line)?;
     }
     Ok(line)
 }
@@ -339,6 +365,33 @@ fn behind_arrow(line: &[u8]) -> &[u8] {
     behind.unwrap_or(line)
 }
 
+/// The line of another log that tells the step of this one, too, where both come only once.
+fn twin_of(version: Version, lines: &[NumberedLine], line: LogLine) -> Option<NumberedStep> {
+    for other in lines {
+        if let Logged::Step(step) = other.logged {
+            if are_twins(version, &line, &step) {
+                let number = other.number;
+                return Some(NumberedStep { number, step });
+            }
+        }
+    }
+    None
+}
+
+/// How many lines of nodes tell a step that a line of the client tells, too.
+fn second_lines(ordered: &OrderedLogs) -> usize {
+    let version = ordered.machine.scenario().version();
+    let mut count = 0usize;
+    for line in &ordered.lines {
+        if let Logged::Step(step) = line.logged {
+            if step.log != Actor::C && twin_of(version, &ordered.lines, step).is_some() {
+                count = count.saturating_add(1);
+            }
+        }
+    }
+    count
+}
+
 /// The lines that an order has, and the steps that are missing from the logs.
 #[derive(Clone, Copy)]
 pub struct Steps {
@@ -347,12 +400,14 @@ pub struct Steps {
 }
 
 impl Steps {
-    /// Those of an order that takes `taken` lines and has `choices` choices in all.
-    pub fn of(taken: Taken, choices: usize) -> Steps {
-        let lines = taken.c.saturating_add(taken.a).saturating_add(taken.b);
+    /// Those of an order of all lines of logs that has `choices` choices.
+    pub fn of(ordered: &OrderedLogs, choices: usize) -> Steps {
+        let Taken { c, a, b } = ordered.report.taken;
+        let lines = c.saturating_add(a).saturating_add(b);
+        let steps = lines.saturating_sub(second_lines(ordered));
         Steps {
             lines,
-            missing: choices.saturating_sub(lines),
+            missing: choices.saturating_sub(steps),
         }
     }
 }
@@ -385,19 +440,30 @@ impl fmt::Display for Reach {
     }
 }
 
-/// A line that does not fit, and what the table gives.
+/// A line of a log, as standard error names it.
 #[derive(Clone, Copy)]
-struct Unfit<'a> {
+struct ToldLine<'a> {
     file: Option<&'a str>,
     number: usize,
-    /// The line, without its comment.
+    /// The line, of a text without its comment.
     bytes: &'a [u8],
-    came: &'a [u8],
-    /// Whether its step may only be made too early.
-    may_be_early: bool,
 }
 
-impl<'a> Unfit<'a> {
+impl<'a> ToldLine<'a> {
+    /// Line `number` of an input.
+    fn of(logs: LogFormat, file: Option<&'a str>, input: &'a [u8], number: usize) -> ToldLine<'a> {
+        let source = SourceLine::of(input, number);
+        let bytes = match logs {
+            LogFormat::Text => source.statement().bytes,
+            LogFormat::Json => source.bytes,
+        };
+        ToldLine {
+            file,
+            number,
+            bytes,
+        }
+    }
+
     /// Where the line is: in a file the first byte of it that is no space.
     fn origin(&self) -> Origin<'a> {
         let Some(file) = self.file else {
@@ -415,20 +481,48 @@ impl<'a> Unfit<'a> {
     }
 }
 
-impl fmt::Display for Unfit<'_> {
+impl fmt::Display for ToldLine<'_> {
     fn fmt<W: Write>(&self, f: &mut Formatter<W>) -> fmt::Result {
         let colon = if self.file.is_some() { ":" } else { "" };
         let told = Excerpt::of(self.bytes.trim_ascii(), 0);
+        write!(f, "{}{colon} {told}", self.origin())
+    }
+}
+
+/// A line that does not fit, and what the table gives.
+#[derive(Clone, Copy)]
+struct Unfit<'a> {
+    told: ToldLine<'a>,
+    came: &'a [u8],
+    /// Whether its step may only be made too early.
+    may_be_early: bool,
+}
+
+impl fmt::Display for Unfit<'_> {
+    fn fmt<W: Write>(&self, f: &mut Formatter<W>) -> fmt::Result {
         let came = Excerpt::of(self.came, 0);
-        write!(
-            f,
-            "{}{colon} {told}: the table gives {came} there",
-            self.origin()
-        )?;
+        write!(f, "{}: the table gives {came} there", self.told)?;
         f.write_str(if self.may_be_early {
             ", perhaps only for want of a line above"
         } else {
             ""
         })
+    }
+}
+
+/// A line of a node whose twin does not come next.
+#[derive(Clone, Copy)]
+struct Apart<'a> {
+    told: ToldLine<'a>,
+    twin: ToldLine<'a>,
+}
+
+impl fmt::Display for Apart<'_> {
+    fn fmt<W: Write>(&self, f: &mut Formatter<W>) -> fmt::Result {
+        write!(
+            f,
+            "{}: it is the step of {}, which does not come next in its log",
+            self.told, self.twin
+        )
     }
 }

@@ -23,7 +23,7 @@ pub fn tell_unsettled<R: Eprint + AllocGlobal>(
     let parts = unsettled_parts(rt.alloc(), &machine);
     machine.discard();
     let parts = parts?;
-    let steps = Steps::of(ordered.report.taken, order.len());
+    let steps = Steps::of(ordered, order.len());
     let ends = Bytes(parts.as_bytes());
     let _ = eprintln!(rt;
         "zy_bench: there is an order of {steps}, and none has this end: 'settled', and it ends with {ends}"

@@ -14,5 +14,5 @@ returns g c =
     IfOk-weaker c.report-report.result (λ (r : OrderReport). AnswersFor p r.answer) (λ (r : OrderReport). IsAnswer c.args.start.now c.args.lines.now c.args.gaps c.args.end r.answer)
     (λ r a.
     subst (λ (e : End). IsAnswer c.args.start.now c.args.lines.now c.args.gaps e r.answer) c.in_ok-plan.ensures.end
-    (answers p c.args.start.now c.args.lines.now c.args.gaps r.answer c.in_ok-plan.ensures.start c.in_ok-plan.ensures.logs c.in_ok-plan.ensures.plan.gaps a))
+    (answers p c.args.start.now c.args.lines.now c.args.gaps r.answer c.in_ok-plan.ensures.start c.in_ok-plan.ensures.logs c.in_ok-plan.ensures.plan a))
     c.report-report.ensures
