@@ -13,14 +13,15 @@ from math import comb
 from case import TOP, content
 from plain_goals import is_over
 from plain_search import considered
-from plain_table import step
+from plain_table import NODES, other, step
 
-# What a line tells: a choice, the words of its outcome, of which the last ones or all may be left out, the value of its instruction, or None, and the kind of
-# the message, or None.
-Line = namedtuple('Line', 'choice told value sent')
+# What a line tells: a choice, the words of its outcome, of which the last ones or all may be left out, the value of its instruction, or None, the kind of the
+# message, or None, and the rows of the page that was sent or taken, or None.
+Line = namedtuple('Line', 'choice told value sent rows', defaults=(None,))
 
-# What a step shows: the words of its outcome, the value of its instruction, or None, and the kind of the message that it sent, or None.
-Shown = namedtuple('Shown', 'outcome value sent')
+# What a step shows: the words of its outcome, the value of its instruction, or None, the kind of the message that it sent, or None, and the rows of the page
+# that it sent or took, or None.
+Shown = namedtuple('Shown', 'outcome value sent rows')
 
 # What comes of it: whether there is an order, the places that are reached, and those that are furthest.
 Answer = namedtuple('Answer', 'verdict places furthest')
@@ -65,7 +66,7 @@ OUTCOMES_OF = outcomes_of_actions()
 
 def is_possible(action, told):
     """Whether an action can have the outcome that a line has."""
-    return any(all(word == other for word, other in zip(told, outcome)) for outcome in OUTCOMES_OF[action])
+    return any(all(word == wanted for word, wanted in zip(told, outcome)) for outcome in OUTCOMES_OF[action])
 
 
 def is_gap(line):
@@ -94,8 +95,15 @@ def room_in(log, gap):
 
 
 def sent_by(before, after):
-    """The kind of the message that a step sent, or None."""
-    return next((new[-1][0] for old, new in zip(before.links, after.links) if len(new) > len(old)), None)
+    """The message that a step sent, or None."""
+    return next((new[-1] for old, new in zip(before.links, after.links) if len(new) > len(old)), None)
+
+
+def rows_moved(state, choice, outcome, sent):
+    """The rows of the page that a step from a state sent or took, or None."""
+    is_taken = outcome.startswith('got page')
+    message = state.links[NODES.index(other(choice[0]))][0] if is_taken else sent
+    return message[2] if message and message[0] == 'page' else None
 
 
 def value_of(instruction, txn):
@@ -110,17 +118,21 @@ def came_of(scenario, state, choice):
     outcome, after = step(scenario, state, choice)
     t = choice[2]
     value = value_of(scenario.programs[t][state.txns[t].pc], after.txns[t]) if outcome == 'did' else None
-    return Shown(outcome.split(), value, sent_by(state, after)), after
+    sent = sent_by(state, after)
+    return Shown(outcome.split(), value, sent and sent[0], rows_moved(state, choice, outcome, sent)), after
 
 
 def agrees(line, shown):
     """Whether what a step shows is what a line tells."""
-    return shown.outcome[:len(line.told)] == line.told and line.value in (None, shown.value) and line.sent in (None, shown.sent)
+    parts = (line.value, shown.value), (line.sent, shown.sent), (line.rows, shown.rows)
+    return shown.outcome[:len(line.told)] == line.told and all(told in (None, part) for told, part in parts)
 
 
 def told_by(line, shown):
-    """What a step shows, in the words of a log: the value where the line tells one."""
-    return shown.outcome + [str(shown.value)] * (None not in (line.value, shown.value)) + (['!', shown.sent] if shown.sent else [])
+    """What a step shows, in the words of a log: the value and the rows where the line tells some."""
+    value = [str(shown.value)] if None not in (line.value, shown.value) else []
+    rows = ['rows'] + ['%d=%d' % row for row in shown.rows] if None not in (line.rows, shown.rows) else []
+    return shown.outcome + value + (['!', shown.sent] if shown.sent else []) + rows
 
 
 def state_after(scenario, state, line):

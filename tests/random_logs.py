@@ -4,7 +4,7 @@ in their place."""
 from collections import namedtuple
 
 from plain_order import ACTORS, DEFAULT_GAP, GAP, Line, TooMany, came_of, is_gap, is_possible, order, split
-from plain_table import opening, read
+from plain_table import LAST_KEY, opening, read
 from random_questions import line_of, random_text, random_walk
 
 # A scenario with its own choices, the state after them, lines, how many steps a gap stands for at most, and the whole text with the number of each line
@@ -24,8 +24,11 @@ OUTCOMES = ('started', 'badmode', 'began A', 'began B', 'idle', 'elsewhere', 'no
             'got pull 0', 'got page 0', 'got page 1', 'got finish', 'got done', 'stray', 'finishing', 'active 0', 'pushed 0', 'pushed 1', 'nopush')
 KINDS = ('wire', 'ready', 'dual', 'pull', 'page', 'finish', 'done')
 
-# The largest value.
-LAST_VALUE = 2 ** 32 - 1
+# The largest value, and how many rows a line tells at most.
+LAST_VALUE, MOST_ROWS = 2 ** 32 - 1, 16
+
+# The choices whose steps send or take a page.
+MOVING = ('take', 'push')
 
 
 def random_logs(chance, changes, gaps):
@@ -50,52 +53,65 @@ def random_logs(chance, changes, gaps):
         return Logs(scenario._replace(choices=own), start, mixed_lines, gap, *written(chance, scenario, head, mixed_lines)), answer
 
 
-def right_run(chance, count):
-    """A scenario with its text, the lines of a run, mixed, and a number or more of them whose value is told (lines_in_full)."""
+def right_run(chance, part, count):
+    """A scenario with its text, the lines of a run, mixed, and a number or more of them that tell a part, `value` or `rows` (lines_in_full). Where it is the
+    rows a page was pulled, too, which few runs do."""
     while True:
         scenario = read(text := random_text(chance))
         steps, _ = random_walk(chance, scenario, opening(scenario), False, 60)
-        lines, valued = lines_in_full(scenario, steps)
-        if len(valued) >= count:
-            return scenario, text, mixed(chance, split(lines)), valued
+        lines = lines_in_full(scenario, steps)
+        telling = [(line, word) for line, word in lines if getattr(line, part) is not None]
+        if len(telling) >= count and (part == 'value' or 'got pull' in [word for _, word in telling]):
+            return scenario, text, mixed(chance, split([line for line, _ in lines])), telling
 
 
-def wrong_values(chance, count):
-    """The right logs of a run; and a number of logs of which one line tells a wrong value: each with that line and the word of its instruction."""
-    scenario, text, lines, valued = right_run(chance, count)
+def wrong_parts(chance, part, count):
+    """The right logs of a run; and a number of logs of which one line tells a wrong part, `value` or `rows`: each with that line and words for it."""
+    scenario, text, lines, telling = right_run(chance, part, count)
 
     def logs_of(lines):
         return Logs(scenario, opening(scenario), lines, DEFAULT_GAP, *written(chance, scenario, text, lines))
 
     others = []
-    for line, word in chance.sample(valued, count):
-        other = line._replace(value=another_value(chance, line.value))
-        others.append((logs_of([other if each is line else each for each in lines]), other, word))
+    for line, word in chance.sample(telling, count):
+        change, told = another_part(chance, part, line)
+        other = line._replace(**{part: told})
+        others.append((logs_of([other if each is line else each for each in lines]), other, [word, *change]))
     return logs_of(lines), others
 
 
+def another_part(chance, part, line):
+    """Words for a change of a part of a line, and what the line tells then."""
+    if part == 'value':
+        return [], another_value(chance, line.value)
+    change, rows = another_page(chance, line.rows)
+    return [change], rows
+
+
 def lines_in_full(scenario, steps):
-    """The lines of the steps of a run that changed something, each of which tells all but the number of a commit; and those of them that tell a value, each
-    with the word of its instruction."""
-    lines, valued, state = [], [], opening(scenario)
+    """The lines of the steps of a run that changed something, each of which tells all but the number of a commit; each with the word of its instruction, or if
+    it is no `run` with the first words of its outcome."""
+    lines, state = [], opening(scenario)
     for choice in steps:
         shown, after = came_of(scenario, state, choice)
         if after != state:
-            lines.append(Line(choice, shown.outcome[:1] if shown.outcome[0] == 'committed' else shown.outcome, shown.value, shown.sent))
-            if shown.value is not None:
-                valued.append((lines[-1], scenario.programs[choice[2]][state.txns[choice[2]].pc][0]))
+            told = shown._replace(outcome=shown.outcome[:1]) if shown.outcome[0] == 'committed' else shown
+            is_run, count = choice[1] == 'run', 2 if choice[1] == 'take' else 1
+            word = scenario.programs[choice[2]][state.txns[choice[2]].pc][0] if is_run else ' '.join(shown.outcome[:count])
+            lines.append((Line(choice, *told), word))
         state = after
-    return lines, valued
+    return lines
 
 
 def logged(chance, scenario, state, steps):
     """The lines of a run."""
-    outcomes, numbers, values, messages = (chance.choice(SHARES) for _ in range(4))
+    outcomes, numbers, values, messages, pages = (chance.choice(SHARES) for _ in range(5))
     lines = []
     for choice in steps:
-        (outcome, value, sent), state = came_of(scenario, state, choice)
+        (outcome, value, sent, rows), state = came_of(scenario, state, choice)
         told = [] if chance.random() < outcomes else shortened(chance, outcome) if chance.random() < numbers else outcome
-        lines.append(Line(choice, told, None if not told or chance.random() < values else value, None if chance.random() < messages else sent))
+        lines.append(Line(choice, told, None if not told or chance.random() < values else value, None if chance.random() < messages else sent,
+                          None if chance.random() < pages else rows))
     return lines
 
 
@@ -124,9 +140,9 @@ def changed(chance, lines):
     at = chance.randrange(len(lines))
     if is_gap(lines[at]):
         return swapped(lines, at)
-    line, kind = lines[at], chance.choice(['outcome', 'outcome', 'message', 'value', 'value', 'swap', 'swap', 'missing'])
-    if kind == 'value':
-        return with_another_value(chance, lines)
+    line, kind = lines[at], chance.choice(['outcome', 'outcome', 'message', 'value', 'value', 'rows', 'swap', 'swap', 'missing'])
+    if kind in ('value', 'rows'):
+        return (with_another_value if kind == 'value' else with_other_rows)(chance, lines)
     if kind == 'swap':
         return swapped(lines, at)
     if kind == 'missing':
@@ -143,6 +159,29 @@ def with_another_value(chance, lines):
         return lines
     at = chance.choice(did)
     return lines[:at] + [lines[at]._replace(value=another_value(chance, lines[at].value or 0))] + lines[at + 1:]
+
+
+def with_other_rows(chance, lines):
+    """Lines of which one, of a take or a push if there is one, tells other rows: if it can be one that tells some."""
+    moving = [at for at, line in enumerate(lines) if line.choice[1] in MOVING]
+    telling = [at for at in moving if lines[at].rows is not None]
+    if not moving:
+        return lines
+    at = chance.choice(telling or moving)
+    return lines[:at] + [lines[at]._replace(rows=another_page(chance, lines[at].rows or ())[1])] + lines[at + 1:]
+
+
+def another_page(chance, rows):
+    """Other rows of a page, and what is other: a value, a key, or that a row is left out or added."""
+    change = chance.choice(['value', 'key', 'left out'] * bool(rows) + ['added'] * (len(rows) < MOST_ROWS))
+    told = dict(rows)
+    key = chance.choice(sorted(told)) if rows else 0
+    value = told.get(key, 0) if change == 'added' else told.pop(key)
+    if change == 'value':
+        told[key] = another_value(chance, value)
+    if change in ('key', 'added'):
+        told[chance.choice([other for other in (0, key + 1, key + 2, 7, LAST_KEY) if other <= LAST_KEY and other not in dict(rows)])] = value
+    return change, tuple(sorted(told.items()))
 
 
 def another_value(chance, value):
@@ -187,7 +226,9 @@ def spelled(chance, scenario, line):
         words += [] if line.value is None else [chance.choice(['%d', '%d', '%010d']) % line.value]
     elif chance.random() < 0.5:
         words += ['->', '?']
-    return chance.choice([' ', ' ', ' ', '\t']).join(words + (['!', line.sent] if line.sent else []))
+    words += ['!', line.sent] if line.sent else []
+    words += [] if line.rows is None else ['rows'] + [chance.choice(['%d=%d', '%d=%d', '%05d=%010d']) % row for row in line.rows]
+    return chance.choice([' ', ' ', ' ', '\t']).join(words)
 
 
 def name_of(chance, scenario, txn):
