@@ -6,7 +6,10 @@ import re
 # What an object may have besides: other fields, whatever their values and however often they come.
 OTHERS = ('"time":1764345600.25', '"seen":["did",{"do":null}]', '"Actor":"C"', '"time":-0', '"\\u2028":"\u00e9"')
 SPACES = ('', '', '', ' ', '\t', '\r', ' \t ')
-ESCAPES = {' ': '\\u0020', '!': '\\u0021', '0': '\\u0030', '?': '\\u003F', '\t': '\\t'}
+ESCAPES = {' ': '\\u0020', '!': '\\u0021', '0': '\\u0030', '=': '\\u003d', '?': '\\u003F', '\t': '\\t'}
+
+# What stands in a line before the rows of a page.
+ROWS = '[ \t]+rows(?:[ \t]+|$)'
 
 
 def fields_of(line):
@@ -15,9 +18,11 @@ def fields_of(line):
     if not line:
         return None
     actor, rest = re.split('[ \t]+', line, maxsplit=1)
+    rest, *rows = re.split(ROWS, rest, maxsplit=1) if re.match('take|push', rest) else (rest,)
     rest, *sent = re.split('[ \t]+![ \t]*', rest)
     action, *came = re.split('[ \t]+->[ \t]*', rest)
-    return {'actor': actor, 'do': action, **({'came': came[0]} if came else {}), **({'sent': sent[0]} if sent else {})}
+    told = {'actor': [actor], 'do': [action], 'came': came, 'sent': sent, 'rows': rows}
+    return {name: words[0] for name, words in told.items() if words}
 
 
 def with_value(fields):
