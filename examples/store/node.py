@@ -57,9 +57,10 @@ class Node:
         except (EOFError, OSError):
             connection.close()
 
-    def log(self, action, outcome, value=None):
-        """Writes down a step of this node, and lets its message go."""
-        self.log_file.write(self.form.head(self.name, action) + self.form.tail(outcome, self.message and self.message[0], value))
+    def log(self, action, outcome, value=None, rows=None):
+        """Writes down a step of this node, and lets its message go. Where that is a page, the line has the rows which it takes along."""
+        kind, *rest = self.message or [None]
+        self.log_file.write(self.form.head(self.name, action) + self.form.tail(outcome, kind, value, rest[1] if kind == 'page' else rows))
         self.post()
 
     def post(self):
@@ -274,7 +275,7 @@ class Node:
 
     def take(self, kind, rest):
         outcome = getattr(self, 'take_' + kind)(*rest) or 'got ' + kind
-        self.log('take', outcome)
+        self.log('take', outcome, rows=rest[1] if kind == 'page' else None)
         self.latch.notify_all()
         return outcome
 
@@ -320,7 +321,7 @@ class Node:
         rows = self.slips.left[page] = self.pages.pop(page) if page in self.pages else self.slips.left[page]
         if self.slips.into('old', rows != self.slips.snapshot[page]):
             rows = self.slips.snapshot[page]
-        self.message = ['page', page, list(rows.items())]
+        self.message = ['page', page, sorted(rows.items())]
 
     # The source's own thread
 
