@@ -63,6 +63,7 @@ def plain(fields):
 # Objects that are damaged, and what is said of each.
 FIELD = 'the field "%s" %s'
 SIGNS = 'has no line feed, no !, no ; and no >'
+NO_STRING = 'is no string; leave it out where there is nothing to tell'
 NO_NUMBER = 'is a whole number from 0 to 4294967295, as 7; leave it out where there is nothing to tell'
 ALONE = 'is allowed only beside "came":"did"'
 NO_OBJECT = 'a line is one object, as {"actor":"A","do":"run 0","came":"did"}'
@@ -82,10 +83,10 @@ DAMAGED = (
     ('{"actor":"A","Do":"run 0"}', FIELD % ('do', 'is missing')),
     ('{"actor":"A","do":"run 0","actor":"A"}', FIELD % ('actor', 'comes twice')),
     ('{"actor":"A","do":"run 0","came":"did","came":"did"}', FIELD % ('came', 'comes twice')),
-    ('{"actor":1,"do":"run 0"}', FIELD % ('actor', 'is no string; leave it out where there is nothing to tell')),
-    ('{"actor":"A","do":["run",0]}', FIELD % ('do', 'is no string; leave it out where there is nothing to tell')),
-    ('{"actor":"A","do":"run 0","came":null}', FIELD % ('came', 'is no string; leave it out where there is nothing to tell')),
-    ('{"actor":"A","do":"run 0","sent":false}', FIELD % ('sent', 'is no string; leave it out where there is nothing to tell')),
+    ('{"actor":1,"do":"run 0"}', FIELD % ('actor', NO_STRING)),
+    ('{"actor":"A","do":["run",0]}', FIELD % ('do', NO_STRING)),
+    ('{"actor":"A","do":"run 0","came":null}', FIELD % ('came', NO_STRING)),
+    ('{"actor":"A","do":"run 0","sent":false}', FIELD % ('sent', NO_STRING)),
     ('{"actor":"A","do":"run 0","came":"did","value":7,"value":7}', FIELD % ('value', 'comes twice')),
     *(('{"actor":"A","do":"run 0","came":"did","value":%s}' % value, FIELD % ('value', NO_NUMBER))
       for value in ('"7"', 'null', '[7]', 'true', '-7', '-0', '7.0', '7e0', '4294967296', '12345678901')),
@@ -100,8 +101,13 @@ DAMAGED = (
     ('{"actor":"A","do":"run 0","sent":"pull ; late"}', FIELD % ('sent', SIGNS)),
     ('{"value":"7","actor":"A","do":"run 0","came":"did","value":7}', FIELD % ('value', 'comes twice')),
     ('{"actor":"A","do":"...","value":7}', FIELD % ('value', ALONE)),
-    ('{"actor":"A","do":"run 0","came":null,"value":"7"}', FIELD % ('came', 'is no string; leave it out where there is nothing to tell')),
+    ('{"actor":"A","do":"run 0","came":null,"value":"7"}', FIELD % ('came', NO_STRING)),
     ('{"actor":"A","do":"run 0","sent":1,"value":7}', FIELD % ('value', ALONE)),
+    *(('{"actor":"A","do":"take","rows":%s}' % rows, FIELD % ('rows', NO_STRING)) for rows in ('null', '7', '["10=7"]', '[[10,7]]', '{"10":7}')),
+    ('{"actor":"A","do":"take","rows":"10=7","rows":"10=7"}', FIELD % ('rows', 'comes twice')),
+    *(('{"actor":"A","do":"take","rows":"%s"}' % rows, FIELD % ('rows', SIGNS)) for rows in ('10=7;', '10=7\\n', '10=>7', '! page')),
+    ('{"actor":"A","do":"take","rows":7,"value":7}', FIELD % ('value', ALONE)),
+    ('{"actor":"A","do":"take","rows":7,"sent":"!"}', FIELD % ('sent', SIGNS)),
 )
 
 # Objects, and the lines that they tell: escapes, surrogates, spaces, other fields, and such that nest as deep as may be.
@@ -112,6 +118,12 @@ TOLD = (
     ('{"actor":"A","do":"run 0","came":"did 7"}', 'A run 0 -> did 7'),
     ('{"actor":"A","do":"run 0","came":"did","value":0,"Value":"7"}', 'A run 0 -> did 0'),
     ('{"actor":"A","do":"take","came":"did","value":7}', 'A take -> did 7'),
+    ('{"actor":"A","do":"take","rows":"10=7 20=2"}', 'A take rows 10=7 20=2'),
+    ('{"rows": "" ,"sent":"done","came":"got page 0","actor":"B","do":"take"}', 'B take -> got page 0 ! done rows'),
+    ('{"r\\u006fws":" 10\\u003d7\\t0000000020=2 ","actor":"A","do":"push","came":"?"}', 'A push -> ? rows  10=7 0000000020=2'),
+    ('{"actor":"A","do":"take","came":"got pull","Rows":7,"rows":"10=7 10=7"}', 'A take -> got pull rows 10=7 10=7'),
+    ('{"actor":"A","do":"run 0","came":"did","value":7,"rows":"10=7"}', 'A run 0 -> did 7 rows 10=7'),
+    ('{"actor":"A","do":"...","rows":""}', 'A ... rows'),
     (' {\t"sent" : "pull","came":"pulls 0" ,"do":"run 0","actor":"B"}\r', 'B run 0 -> pulls 0 ! pull'),
     ('{"\\u0061ctor":"\\u0043","do":"st\\u0061rt"}', 'C start'),
     ('{"time":[-1e400,{"actor":null}],"time":2,"actor":"A","do":"take"}', 'A take'),
