@@ -9,7 +9,7 @@ use Rattle.zy_logs.specs.declared.faults.LogFault.TheVariants.{Refused, Memory}
 use Rattle.zy_logs.specs.declared.logs.NumberedLine.{NumberedLine}
 use Rattle.zy_logs.specs.declared.txns.Txns.{Txns}
 use Rattle.zy_logs.specs.Logs.{choices_of, logs_of, Reads}
-use Rattle.zy_logs.proofs.NamedLemmas.{logs_named, logs_few}
+use Rattle.zy_logs.proofs.NamedLemmas.{logs_few, logs_named, logs_placed}
 use Rattle.zy_engine.specs.Searching.{history_of}
 use Rattle.zy_table.specs.Play.{opening}
 use Rattle.zy_laws.proofs.walk.PlayPush.{length-entries}
@@ -46,6 +46,7 @@ reads_cut f gap input text lines sc r front back is =
 pub can_follow : (f : LogFormat) (gap : ℕ) (text under : List ℕ) (sc : Scenario) (lines : List NumberedLine) → IsScenario sc → SaysIn f gap text under sc (Ok lines)
     → CanFollow (history_of None sc) gap lines
 can_follow f gap text under sc lines is said = let says = said.says in record {
+  logs = logs_placed says.txns gap (room sc) (line_below text) said.logs lines says.logs;
   named = subst (λ n. AreNamed n (choices_of lines)) says.are.count
       (logs_named says.txns gap (room sc) (line_below text) said.logs lines says.logs);
   room = omega (

@@ -4,9 +4,8 @@ use Rattle.std.specs.Prelude.{if◌then◌else◌, sum}
 use Rattle.std.proofs.lemmas.List.Sums.{sum_by-cons}
 use Rattle.zy_isa.specs.declared.node.Actor.{Actor}
 use Rattle.zy_isa.specs.declared.node.Actor.TheVariants.{C, A, B}
-use Rattle.zy_isa.specs.Choices.{actor_of}
 use Rattle.zy_machine.specs.Histories.{History}
-use Rattle.zy_threads.specs.Turns.{is_by, is_c, is_a, is_b}
+use Rattle.zy_threads.specs.Turns.{is_c, is_a, is_b}
 use Rattle.zy_logs.specs.declared.log_line.LogLine.{LogLine}
 use Rattle.zy_logs.specs.declared.log_line.Logged.{Logged}
 use Rattle.zy_logs.specs.declared.log_line.Logged.TheVariants.{Step, Gap}
@@ -26,9 +25,9 @@ longer : (n : ℕ) (line : LogLine) (lines : List LogLine) (rest : ℕ → List 
 longer n line lines rest true same = omega (arith, same 0)
 longer n line lines rest false same = same n
 
--- the lines of an actor among one and others
+-- the lines of an actor's log among one and others
 lines_more : (x : Actor) (line : LogLine) (lines : List LogLine)
-    → lines_of x (line ∷ lines) ≡ (if is_by x line.choice then line ∷ lines_of x lines else lines_of x lines)
+    → lines_of x (line ∷ lines) ≡ (if is_of x line.log then line ∷ lines_of x lines else lines_of x lines)
 lines_more C line lines = refl
 lines_more A line lines = refl
 lines_more B line lines = refl
@@ -44,10 +43,10 @@ gaps_behind : (gap : ℕ) (x : Actor) (n : ℕ) (logged : Logged) (rest : ℕ �
     → ((m : ℕ) → length (rest m) ≡ length (lines_of x lines) + 1)
     → length (and_then gap x n logged rest) ≡ length (lines_of x (step_of logged ++ lines)) + 1
 gaps_behind gap x n (Step line) rest lines same =
-    longer n line (lines_of x lines) rest (is_by x line.choice) same ∙ ap (λ (ls : List LogLine). length ls + 1) (sym (lines_more x line lines))
+    longer n line (lines_of x lines) rest (is_of x line.log) same ∙ ap (λ (ls : List LogLine). length ls + 1) (sym (lines_more x line lines))
 gaps_behind gap x n (Gap y) rest lines same = gap_same n gap (is_of x y) rest (lines_of x lines) same
 
--- so there is a gap before each line of an actor, and one behind the last
+-- so there is a gap before each line of an actor's log, and one behind the last
 gaps_many : (gap : ℕ) (x : Actor) (n : ℕ) (lines : List NumberedLine) → length (gaps_from gap x n lines) ≡ length (lines_of x (steps lines)) + 1
 gaps_many gap C n [] = omega arith
 gaps_many gap A n [] = omega arith
@@ -61,7 +60,7 @@ gaps_many gap x n (l ∷ lines) =
 abbrev in_all : ℕ → List ℕ → List ℕ → List ℕ → ℕ
 in_all lines c a b = lines + (sum c + (sum a + sum b))
 
--- a line of an actor ends its gap
+-- a line of an actor's log ends its gap
 all_line : (y : Actor) (lines total n m k : ℕ) (c a b : ℕ → List ℕ) → ((i j l : ℕ) → in_all lines (c i) (a j) (b l) ≡ i + (j + l) + total)
     → in_all (suc lines) (if is_c y then n ∷ c 0 else c n) (if is_a y then m ∷ a 0 else a m) (if is_b y then k ∷ b 0 else b k)
     ≡ n + (m + k) + (1 + total)
@@ -82,7 +81,7 @@ all_behind : (gap n m k : ℕ) (logged : Logged) (lines : List LogLine) (total :
     → ((i j l : ℕ) → in_all (length lines) (c i) (a j) (b l) ≡ i + (j + l) + total)
     → in_all (length (step_of logged ++ lines)) (and_then gap C n logged c) (and_then gap A m logged a) (and_then gap B k logged b)
     ≡ n + (m + k) + (steps_of gap logged + total)
-all_behind gap n m k (Step line) lines total c a b same = all_line (actor_of line.choice) (length lines) total n m k c a b same
+all_behind gap n m k (Step line) lines total c a b same = all_line line.log (length lines) total n m k c a b same
 all_behind gap n m k (Gap y) lines total c a b same = all_gap y (length lines) total gap n m k c a b same
 
 -- so the gaps of lines, and the lines of steps, have room for as many steps as the lines count for
@@ -99,6 +98,7 @@ all_steps gap n m k (l ∷ lines) =
 pub input_is : (h : History) (gap : ℕ) (lines : List NumberedLine) (gaps : Gaps) → CanFollow h gap lines → AreGapsIn gap lines gaps
     → IsInput h (steps lines) gaps
 input_is h gap lines gaps follow are = record {
+  logs = follow.logs;
   named = follow.named;
   many = λ x. ap (λ (ns : List ℕ). length ns) (are x) ∙ gaps_many gap x 0 lines;
   room = omega (

@@ -1,12 +1,12 @@
 -- The run of the scenario that goes out.
-use Rattle.std.proofs.Common.{◌≡◌, ◌≤◌, ◌∙◌, ◌+◌, ◌++◌, ◌∷◌, ℕ, zero, suc, List, [], Bool, true, false, None, Option, refl, sym, ap, subst, arith, length, length-append}
+use Rattle.std.proofs.Common.{◌≡◌, ◌≤◌, ◌∙◌, ◌+◌, ◌++◌, ◌∷◌, ℕ, zero, suc, List, [], Bool, true, false, None, Option, Some, refl, sym, ap, subst, arith, length, length-append}
 use Rattle.std.proofs.lemmas.List.{length-map}
-use Rattle.std.specs.Prelude.{if◌then◌else◌, sum}
+use Rattle.std.specs.Prelude.{if◌then◌else◌, option_to_list, sum}
 use Rattle.std.proofs.lemmas.List.Sums.{sum_by-cons}
 use Rattle.zy_isa.specs.declared.node.Actor.{Actor}
 use Rattle.zy_isa.specs.declared.node.Actor.TheVariants.{C, A, B}
 use Rattle.zy_isa.specs.declared.choice.Choice.{Choice}
-use Rattle.zy_isa.specs.Choices.{actor_of, names_below}
+use Rattle.zy_isa.specs.Choices.{names_below}
 use Rattle.zy_isa.specs.Limits.{max_choices}
 use Rattle.zy_isa.specs.Scenario.{Scenario, IsScenario, AreNamed}
 use Rattle.zy_table.specs.State.{State, Step}
@@ -22,7 +22,7 @@ use Rattle.zy_logs.specs.declared.log_line.LogLine.{LogLine}
 use Rattle.zy_order.specs.Answers.{IsInput, MatchesAll, MatchesPrefixes}
 use Rattle.zy_order.specs.declared.gaps.Gaps.{Gaps}
 use Rattle.zy_order.specs.Gaps.{gaps_of, gap_count, AreMissing, Completes}
-use Rattle.zy_order.specs.Orders.{Fits, Merges, IsPrefixOrder, all_of, choices_of, lines_of}
+use Rattle.zy_order.specs.Orders.{ToldStep, Fits, Merges, IsPrefixOrder, all_of, choices_of, choices_told, lines_in, lines_of, lines_told}
 use Rattle.zy_order.proofs.OrderLemmas.{is_same, lines_cons}
 use Rattle.zy_order.proofs.LineLemmas.{lines_lengths}
 use Rattle.zy_engine.specs.Searching.{history_of}
@@ -74,14 +74,15 @@ observations-reordered sc order s (c ∷ cs) =
     ∙ (ap (λ (x : Step). observation_at sc s c ∷ observations (reordered sc order) x.after cs) (one sc order c s)
     ∙ ap (λ os. observation_at sc s c ∷ os) (observations-reordered sc order (step sc c s).after cs))
 
--- lines that fit agree with the steps of their choices
-agree_each : (sc : Scenario) (s : State) (lines : List LogLine) → Fits sc s lines → AgreeEach lines (observations sc s (choices_of lines))
-agree_each sc s [] fits = tt
-agree_each sc s (line ∷ lines) fits = (refl, fits.0, agree_each sc (step sc line.choice s).after lines fits.1)
+-- steps that fit agree with what those of their choices show
+agree_each : (sc : Scenario) (log : Actor → List LogLine) (s : State) (order : List ToldStep) → Fits sc log s order
+    → AgreeEach order (observations sc s (choices_told order))
+agree_each sc log s [] fits = tt
+agree_each sc log s (x ∷ xs) fits = (refl, fits.1, agree_each sc log (step sc x.line.choice s).after xs fits.2)
 
--- with the choices of lines behind its own the run makes a step for each of the lines
-steps_behind : (sc : Scenario) (order : List LogLine) (cs : List Choice) → cs ≡ choices_of order
-    → steps_of (extended sc cs) ≡ steps_of sc ++ observations sc (play sc (opening sc) sc.choices) (choices_of order)
+-- with the choices of an order behind its own the run makes each step of the order
+steps_behind : (sc : Scenario) (order : List ToldStep) (cs : List Choice) → cs ≡ choices_told order
+    → steps_of (extended sc cs) ≡ steps_of sc ++ observations sc (play sc (opening sc) sc.choices) (choices_told order)
 steps_behind sc order cs is =
     let after = play sc (opening sc) sc.choices in
     let choices = sc.choices ++ cs in
@@ -89,17 +90,17 @@ steps_behind sc order cs is =
     ∙ (observations-reordered sc choices (opening sc) choices
     ∙ (observations-append sc (opening sc) sc.choices cs ∙ ap (λ ds. steps_of sc ++ observations sc after ds) is))
 
--- the run makes a step for each line of an order of prefixes
-begun_by : (sc : Scenario) (lines : List LogLine) (gaps : Gaps) (taken : Actor → ℕ) (order : List LogLine) (cs : List Choice)
-    → IsPrefixOrder sc (history_of None sc).state lines gaps taken order → cs ≡ choices_of order → RunsPrefix sc lines gaps taken cs
+-- the run makes each step of an order of prefixes
+begun_by : (sc : Scenario) (lines : List LogLine) (gaps : Gaps) (taken : Actor → ℕ) (order : List ToldStep) (cs : List Choice)
+    → IsPrefixOrder sc (history_of None sc).state lines gaps taken order → cs ≡ choices_told order → RunsPrefix sc lines gaps taken cs
 begun_by sc lines gaps taken order cs is same =
     let after = play sc (opening sc) sc.choices in
     record {
       order = order;
       merges = is.merges;
-      steps = observations sc after (choices_of order);
+      steps = observations sc after (choices_told order);
       behind = steps_behind sc order cs same;
-      agree = agree_each sc after order is.fits;
+      agree = agree_each sc (λ x. lines_of x lines) after order is.fits;
     }
 
 -- so it does of an order
@@ -125,12 +126,12 @@ more_named : (count : ℕ) (line : LogLine) (lines : List LogLine) (b : Bool) �
 more_named count line lines true one rest = (one, rest)
 more_named count line lines false one rest = rest
 
--- the lines of an actor do where all lines do
+-- the lines of a log do where all lines do
 own_named : (count : ℕ) (x : Actor) (lines : List LogLine) → AreNamed count (choices_of lines) → AreNamed count (choices_of (lines_of x lines))
 own_named count x [] named = tt
 own_named count x (line ∷ lines) named =
     subst (λ ls. AreNamed count (choices_of ls)) (sym (lines_cons x line lines))
-    (more_named count line (lines_of x lines) (is_same x (actor_of line.choice)) named.0 (own_named count x lines named.1))
+    (more_named count line (lines_of x lines) (is_same x line.log) named.0 (own_named count x lines named.1))
 
 -- of such lines the first one does
 head_named : (count : ℕ) (line : LogLine) (lines : List LogLine) (b : Bool) → b ≡ true
@@ -144,11 +145,11 @@ tail_named : (count : ℕ) (line : LogLine) (lines : List LogLine) (b : Bool)
 tail_named count line lines true named = named.1
 tail_named count line lines false named = named
 
--- all lines do where those of each actor do
+-- all lines do where those of each log do
 each_named : (count : ℕ) (lines : List LogLine) → ((x : Actor) → AreNamed count (choices_of (lines_of x lines))) → AreNamed count (choices_of lines)
 each_named count [] named = tt
 each_named count (line ∷ lines) named =
-    let x = actor_of line.choice in
+    let x = line.log in
     let parted : (y : Actor) → AreNamed count (choices_of (if is_same y x then line ∷ lines_of y lines else lines_of y lines))
     = λ y. subst (λ ls. AreNamed count (choices_of ls)) (lines_cons y line lines) (named y) in (
       head_named count line (lines_of x lines) (is_same x x) (same_self x) (parted x),
@@ -192,25 +193,43 @@ completes_few count x (suc k) (l ∷ log) (n ∷ gaps) lines c = omega (
   sum_by-cons (λ m. m) n gaps,
 )
 
-module _ (sc : Scenario) (lines : List LogLine) (gaps : Gaps) (taken : Actor → ℕ) (order : List LogLine) (merges : Merges sc lines gaps taken order) where
+-- behind a line that may be there others are named as well
+behind_named : (count : ℕ) (other : Option LogLine) (lines : List LogLine) → AreNamed count (choices_of (option_to_list other ++ lines))
+    → AreNamed count (choices_of lines)
+behind_named count None lines named = named
+behind_named count (Some line) lines named = named.1
+
+-- the choices of steps do where those of their lines do
+told_named : (count : ℕ) (order : List ToldStep) → AreNamed count (choices_of (lines_told order)) → AreNamed count (choices_told order)
+told_named count [] named = tt
+told_named count (x ∷ xs) named = (named.0, told_named count xs (behind_named count x.other (lines_told xs) named.1))
+
+-- a step has a line, so there are no more steps than lines
+told_few : (order : List ToldStep) → length order ≤ length (lines_told order)
+told_few [] = omega arith
+told_few (x ∷ xs) = omega (arith, told_few xs, length-append (lines_in x) (lines_told xs))
+
+module _ (sc : Scenario) (lines : List LogLine) (gaps : Gaps) (taken : Actor → ℕ) (order : List ToldStep) (merges : Merges sc lines gaps taken order) where
   -- the choices of a merge name transactions that are there
-  merge_named : AreNamed (length sc.programs) (choices_of lines) → AreNamed (length sc.programs) (choices_of order)
+  merge_named : AreNamed (length sc.programs) (choices_of lines) → AreNamed (length sc.programs) (choices_told order)
   merge_named named =
       let count = length sc.programs in
-      each_named count order (λ x. completes_named count x (taken x) (lines_of x lines) (gaps_of x gaps) (lines_of x order) (own_named count x lines named)
-      (merges x))
+      let told = lines_told order in
+      told_named count order (each_named count told (λ x. completes_named count x (taken x) (lines_of x lines) (gaps_of x gaps) (lines_of x told)
+      (own_named count x lines named) (merges x)))
 
   -- and there are no more than the logs have room for
   merge_few : length order ≤ length lines + gap_count gaps
   merge_few =
       let count = length sc.programs in
-      let few : (x : Actor) → length (lines_of x order) ≤ length (lines_of x lines) + sum (gaps_of x gaps) = λ x.
-      completes_few count x (taken x) (lines_of x lines) (gaps_of x gaps) (lines_of x order) (merges x) in
-      omega (arith, lines_lengths order, lines_lengths lines, few C, few A, few B)
+      let told = lines_told order in
+      let few : (x : Actor) → length (lines_of x told) ≤ length (lines_of x lines) + sum (gaps_of x gaps) = λ x.
+      completes_few count x (taken x) (lines_of x lines) (gaps_of x gaps) (lines_of x told) (merges x) in
+      omega (arith, told_few order, lines_lengths told, lines_lengths lines, few C, few A, few B)
 
--- a choice for each line
-length_choices : (lines : List LogLine) → length (choices_of lines) ≡ length lines
-length_choices lines = length-map lines (λ (line : LogLine). line.choice)
+-- a choice for each step
+length_choices : (order : List ToldStep) → length (choices_told order) ≡ length order
+length_choices order = length-map order (λ (x : ToldStep). x.line.choice)
 
 -- choices that are named, and others
 named_both : (count : ℕ) (cs ds : List Choice) → AreNamed count cs → AreNamed count ds → AreNamed count (cs ++ ds)
@@ -237,8 +256,8 @@ with_choices sc cs is room named = record {
 }
 
 -- the scenario with the choices of an order of prefixes behind its own is one
-begun_is : (sc : Scenario) (lines : List LogLine) (gaps : Gaps) (taken : Actor → ℕ) (order : List LogLine) (cs : List Choice) → IsScenario sc
-    → IsInput (history_of None sc) lines gaps → IsPrefixOrder sc (history_of None sc).state lines gaps taken order → cs ≡ choices_of order
+begun_is : (sc : Scenario) (lines : List LogLine) (gaps : Gaps) (taken : Actor → ℕ) (order : List ToldStep) (cs : List Choice) → IsScenario sc
+    → IsInput (history_of None sc) lines gaps → IsPrefixOrder sc (history_of None sc).state lines gaps taken order → cs ≡ choices_told order
     → IsScenario (extended sc cs)
 begun_is sc lines gaps taken order cs is input by same =
     let count = length sc.programs in

@@ -2,7 +2,7 @@
 use Rattle.std.specs.Prelude.{◌≡◌, ◌+◌, ℕ, List, [], ◌∷◌, Bool, if◌then◌else◌}
 use Rattle.zy_isa.specs.declared.node.Actor.{Actor}
 use Rattle.zy_isa.specs.declared.node.Actor.TheVariants.{C, A, B}
-use Rattle.zy_threads.specs.Turns.{is_by, is_c, is_a, is_b}
+use Rattle.zy_threads.specs.Turns.{is_c, is_a, is_b}
 use Rattle.zy_logs.specs.declared.log_line.Logged.{Logged}
 use Rattle.zy_logs.specs.declared.log_line.Logged.TheVariants.{Step, Gap}
 use Rattle.zy_logs.specs.declared.logs.NumberedLine.{NumberedLine}
@@ -15,12 +15,12 @@ is_of C y = is_c y
 is_of A y = is_a y
 is_of B y = is_b y
 
--- where n steps of an actor may be missing so far: a line of its own ends the gap, and a gap of its own adds to it
+-- where n steps of an actor may be missing so far: a line of its log ends the gap, and a gap of its own adds to it
 abbrev pub and_then : ℕ → Actor → ℕ → Logged → (ℕ → List ℕ) → List ℕ
-and_then gap x n (Step line) rest = if is_by x line.choice then n ∷ rest 0 else rest n
+and_then gap x n (Step line) rest = if is_of x line.log then n ∷ rest 0 else rest n
 and_then gap x n (Gap y) rest = if is_of x y then rest (n + gap) else rest n
 
--- how many steps of an actor may be missing before each of its lines, and behind the last, where n may be so far
+-- how many steps of an actor may be missing before each line of its log, and behind the last, where n may be so far
 abbrev pub gaps_from : ℕ → Actor → ℕ → List NumberedLine → List ℕ
 gaps_from gap x n [] = n ∷ []
 gaps_from gap x n (l ∷ lines) = and_then gap x n l.logged (λ m. gaps_from gap x m lines)

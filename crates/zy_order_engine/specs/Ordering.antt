@@ -20,7 +20,7 @@ use Rattle.zy_logs.specs.declared.faults.LogFault.TheVariants as reading
 use Rattle.zy_logs.specs.declared.faults.LogLineFault.{LogLineFault}
 use Rattle.zy_logs.specs.declared.logs.NumberedLine.{NumberedLine}
 use Rattle.zy_logs.specs.declared.txns.Txns.{Txns}
-use Rattle.zy_logs.specs.Logs.{logs_of, steps, steps_in, choices_of}
+use Rattle.zy_logs.specs.Logs.{AreInLogs, logs_of, steps, steps_in, choices_of}
 use Rattle.zy_json.specs.declared.faults.JsonLineFault.{JsonLineFault}
 use Rattle.zy_json.specs.Logs.{IsFirstNone, TellEach}
 use Rattle.zy_order.specs.declared.answer.OrderAnswer.{OrderAnswer}
@@ -96,8 +96,9 @@ ReadsBelow f gap text under sc (Err (misread.Log r)) = SaysIn f gap text under s
 ReadsBelow f gap text under sc (Err (misread.Json r)) = IsNoObject f text under r
 ReadsBelow f gap text under sc (Err misread.Memory) = Unit {0}
 
--- lines can be logs of steps that follow a machine's: each names a transaction, and the history has room for all steps
+-- lines can be logs of steps that follow a machine's: each is of its log and names a transaction, and the history has room for all steps
 pub record CanFollow (h : History) (gap : ℕ) (lines : List NumberedLine) : Type 0 where
+  pub logs : AreInLogs (steps lines)
   pub named : AreNamed (length h.scenario.programs) (choices_of lines)
   pub room : length h.entries + steps_in gap lines ≤ max_choices
 

@@ -7,10 +7,9 @@ use Rattle.zy_table.specs.Play.{opening}
 use Rattle.zy_table.specs.Observations.{observations}
 use Rattle.zy_laws.specs.Orders.{reordered}
 use Rattle.zy_logs.specs.declared.log_line.LogLine.{LogLine}
-use Rattle.zy_logs.specs.Agrees.{Agrees}
 use Rattle.zy_isa.specs.declared.node.Actor.{Actor}
 use Rattle.zy_order.specs.declared.gaps.Gaps.{Gaps}
-use Rattle.zy_order.specs.Orders.{Merges, all_of}
+use Rattle.zy_order.specs.Orders.{ToldStep, Agree, Merges, all_of}
 
 -- the scenario with choices behind its own
 abbrev pub extended : Scenario → List Choice → Scenario
@@ -20,17 +19,17 @@ extended sc cs = reordered sc (sc.choices ++ cs)
 abbrev pub steps_of : Scenario → List Observation
 steps_of sc = observations sc (opening sc) sc.choices
 
--- each line is of the step in its place, and agrees with it
-abbrev pub AgreeEach : List LogLine → List Observation → Type 0
+-- each step is of the run's step in its place, and its lines agree with what that shows
+abbrev pub AgreeEach : List ToldStep → List Observation → Type 0
 AgreeEach [] [] = Unit {0}
 AgreeEach [] (o ∷ os) = ⊥
-AgreeEach (line ∷ lines) [] = ⊥
-AgreeEach (line ∷ lines) (o ∷ os) = (o.entry.choice ≡ line.choice) × Agrees line o × AgreeEach lines os
+AgreeEach (x ∷ xs) [] = ⊥
+AgreeEach (x ∷ xs) (o ∷ os) = (o.entry.choice ≡ x.line.choice) × Agree x.line x.other o × AgreeEach xs os
 
--- the run of the scenario with these choices behind its own has the same steps, and behind them one for each line of a
--- merge of completions of the logs, which takes these numbers of lines
+-- the run of the scenario with these choices behind its own has the same steps, and behind them those of a merge of completions of the
+-- logs, which takes these numbers of lines
 pub record RunsPrefix (sc : Scenario) (lines : List LogLine) (gaps : Gaps) (taken : Actor → ℕ) (cs : List Choice) : Type 0 where
-  pub order : List LogLine
+  pub order : List ToldStep
   pub merges : Merges sc lines gaps taken order
   pub steps : List Observation
   pub behind : steps_of (extended sc cs) ≡ steps_of sc ++ steps

@@ -9,8 +9,8 @@ ghost use Rattle.zy_order.specs.declared.gaps.Gaps.{Gaps as SomeGaps};
 ghost use Rattle.zy_order.specs.Answers.{IsInput, MatchesAll, MatchesPrefixes};
 ghost use Rattle.zy_order_engine.specs.Runs.{extended, RunsOrder, RunsPrefix};
 
-/// The scenario with the choices of an order behind its own is a scenario. Its run makes the same steps, and behind them one
-/// for each line of the order and each missing step. Each step agrees with what its line tells.
+/// The scenario with the choices of an order behind its own is a scenario. Its run makes the same steps, and behind them those
+/// of the order, missing ones among them. Each step agrees with what its lines tell.
 pub fn found_runs()
     ensures tested { (sc : AScenario) (lines : List ALine) (gaps : SomeGaps) (cs : List AChoice) → IsScenario sc
         → IsInput (history_of None sc) lines gaps → MatchesAll (history_of None sc) lines gaps cs → IsScenario (extended sc cs) }

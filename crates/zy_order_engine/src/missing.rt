@@ -3,19 +3,11 @@ ghost use Rattle.std.specs.Prelude.{◌≡◌, ◌≤◌, ◌+◌, ◌++◌, ℕ
 ghost use Rattle.zy_isa.specs.Limits.{max_choices};
 ghost use Rattle.zy_logs.specs.Logs.{steps_in, steps_of};
 ghost use Rattle.zy_order_engine.specs.Missing.{and_then, gaps_from, is_of, AreGapsIn};
-ghost use Rattle.zy_threads.specs.Turns as turns;
 
 use std::alloc::{AllocError, Global};
-use zy_isa::{Actor, Choice};
+use zy_isa::Actor;
 use zy_logs::{Logged, NumberedLine};
 use zy_order::Gaps;
-
-/// Whether the choice is the actor's.
-fn is_by(choice: Choice, actor: Actor) -> bool
-    ensures { result ≡ turns.is_by actor choice }
-{
-    choice.actor() == actor
-}
 
 /// Whether the second actor is the first.
 fn is_same(actor: Actor, other: Actor) -> bool
@@ -24,7 +16,7 @@ fn is_same(actor: Actor, other: Actor) -> bool
     other == actor
 }
 
-/// How many steps of an actor may be missing behind a line, where `missing` may be before it: a line of its own ends the gap,
+/// How many steps of an actor may be missing behind a line, where `missing` may be before it: a line of its log ends the gap,
 /// which is added, and a gap of its own adds to it.
 fn add(
     gaps: &mut Vec<u16>,
@@ -40,7 +32,7 @@ fn add(
 {
     match logged {
         Logged::Step(line) => {
-            if !is_by(line.choice, actor) {
+            if !is_same(actor, line.log) {
                 return Ok(missing);
             }
             gaps.push(missing)?;
@@ -56,7 +48,7 @@ fn add(
     }
 }
 
-/// How many steps of an actor may be missing before each of its lines, and behind the last.
+/// How many steps of an actor may be missing before each line of its log, and behind the last.
 fn gaps_of(
     alloc: Global,
     gap: u16,
