@@ -464,6 +464,11 @@ impl<'a> ToldLine<'a> {
         }
     }
 
+    /// What the line says.
+    fn excerpt(&self) -> Excerpt<'a> {
+        Excerpt::of(self.bytes.trim_ascii(), 0)
+    }
+
     /// Where the line is: in a file the first byte of it that is no space.
     fn origin(&self) -> Origin<'a> {
         let Some(file) = self.file else {
@@ -484,8 +489,7 @@ impl<'a> ToldLine<'a> {
 impl fmt::Display for ToldLine<'_> {
     fn fmt<W: Write>(&self, f: &mut Formatter<W>) -> fmt::Result {
         let colon = if self.file.is_some() { ":" } else { "" };
-        let told = Excerpt::of(self.bytes.trim_ascii(), 0);
-        write!(f, "{}{colon} {told}", self.origin())
+        write!(f, "{}{colon} {}", self.origin(), self.excerpt())
     }
 }
 
@@ -519,10 +523,12 @@ struct Apart<'a> {
 
 impl fmt::Display for Apart<'_> {
     fn fmt<W: Write>(&self, f: &mut Formatter<W>) -> fmt::Result {
+        let number = self.twin.number;
+        let twin = self.twin.excerpt();
         write!(
             f,
-            "{}: it is the step of {}, which does not come next in its log",
-            self.told, self.twin
+            "{}: it is the step of line {number} {twin}, which does not come next in its log",
+            self.told
         )
     }
 }
