@@ -14,7 +14,7 @@ ghost use Rattle.zy_isa.specs.declared.node.Actor.{Actor as AnActor};
 use crate::cursors::Cursors;
 use crate::gaps::Gaps;
 use crate::tellers::{StepLines, Tellers};
-use crate::twins::are_twins;
+use crate::twins::{are_twins, tells_once};
 use std::alloc::{AllocError, Global};
 use zy_isa::{Actor, Node, Version};
 use zy_logs::LogLine;
@@ -94,9 +94,10 @@ impl Logs {
     fn has_twin(&self, version: Version, line: &LogLine) -> bool
         ensures { Decides result (HasTwin version (λ x. log_of x self.now) line.now) }
     {
-        has_twin_in(version, &self.c, line)
-            || has_twin_in(version, &self.a, line)
-            || has_twin_in(version, &self.b, line)
+        tells_once(version, line)
+            && (has_twin_in(version, &self.c, line)
+                || has_twin_in(version, &self.a, line)
+                || has_twin_in(version, &self.b, line))
     }
 
     /// Whether a line of the client's log and one of a node's may tell one step.

@@ -19,7 +19,7 @@ fn comes_once(version: Version, told: OutcomePattern) -> bool
 }
 
 /// Whether a line tells what comes only once.
-fn tells_once(version: Version, line: &LogLine) -> bool
+pub(crate) fn tells_once(version: Version, line: &LogLine) -> bool
     ensures { Decides result (TellsOnce version line.now) }
 {
     match line.told {
