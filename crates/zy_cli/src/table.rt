@@ -245,7 +245,7 @@ const ORDER: Described = Described {
     about: "Looks for an order of three logs that the step table allows",
     below: concat!(
         "Input:   a scenario text through its end line, and below it lines of the logs of C, A and B, each\n",
-        "         actor's own in order, else mixed in any way; at most 4194304 bytes. The scenario's choices\n",
+        "         log in order, else mixed in any way; at most 4194304 bytes. The scenario's choices\n",
         "         are steps already taken\n",
         "Output:  the scenario with the choices of an order of all lines behind its own, in which the step\n",
         "         table gives each line what it tells; nothing where there is none. A text keeps its names\n",
@@ -260,9 +260,11 @@ const ORDER: Described = Described {
         "         sent. CHOICE alone, or CHOICE -> ?, says nothing of what came. NODE run T -> did V tells\n",
         "         the value, too, that the instruction set, read or wrote, and rows K=V .. behind a take or a\n",
         "         push the rows of the page that it took or sent. Numbers of an outcome may be left out from\n",
-        "         the end on: docs/order.md has the form. C ..., A ... and B ... stand for steps of the actor\n",
-        "         that its log lacks there, or for none: at most N of --gap N. With --json a line is an object\n",
-        "         in place of this: {\"actor\":\"A\",\"do\":\"run 0\",\"came\":\"did\",\"value\":7}\n",
+        "         the end on: docs/order.md has the form. A start, A begin T and A kill T tell a choice of\n",
+        "         the client that took place at A, beside its line of C or alone; B likewise. C ..., A ...\n",
+        "         and B ... stand for steps of the actor that its log lacks there, or for none: at most N of\n",
+        "         --gap N. With --json a line is an object in place of this:\n",
+        "         {\"actor\":\"A\",\"do\":\"run 0\",\"came\":\"did\",\"value\":7}\n",
         "\n",
         "Example:\n",
         "  cat SCENARIO client.log a.log b.log | zy_bench order | zy_bench run"
