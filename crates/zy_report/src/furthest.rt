@@ -229,7 +229,7 @@ impl<'a> Furthest<'a> {
             return false;
         };
         let version = self.machine.scenario().version();
-        let Some(twin) = twin_of(version, self.lines, line.step) else {
+        let Some(twin) = twin_of(version, self.lines, &line.step) else {
             return false;
         };
         if self.unfit(rt.alloc(), actor).is_some() {
@@ -340,11 +340,7 @@ fn did_otherwise(machine: &mut Machine, line: LogLine) -> Result<Option<Observat
 }
 
 /// A step as a listing has it. Behind it come the value and the rows that it shows, if the line of a log tells any.
-fn step_line(
-    alloc: Global,
-    told: &LogLine,
-    shown: &Observation,
-) -> Result<LineBuffer, AllocError> {
+fn step_line(alloc: Global, told: &LogLine, shown: &Observation) -> Result<LineBuffer, AllocError> {
     let mut line = LineBuffer::new(alloc);
     let entry = &shown.entry;
     StepLine { number: 1, entry }.append(&mut line)?;
@@ -366,16 +362,23 @@ fn behind_arrow(line: &[u8]) -> &[u8] {
 }
 
 /// The line of another log that tells the step of this one, too, where both come only once.
-fn twin_of(version: Version, lines: &[NumberedLine], line: LogLine) -> Option<NumberedStep> {
+fn twin_of(version: Version, lines: &[NumberedLine], line: &LogLine) -> Option<NumberedStep> {
     for other in lines {
-        if let Logged::Step(step) = other.logged {
-            if are_twins(version, &line, &step) {
-                let number = other.number;
-                return Some(NumberedStep { number, step });
+        if let Logged::Step(step) = &other.logged {
+            if are_twins(version, line, step) {
+                return Some(NumberedStep {
+                    number: other.number,
+                    step: *step,
+                });
             }
         }
     }
     None
+}
+
+/// Whether a line of a node's log tells a choice of the client.
+fn is_shared(line: &LogLine) -> bool {
+    line.log != Actor::C && line.choice.actor() == Actor::C
 }
 
 /// How many lines of nodes tell a step that a line of the client tells, too.
@@ -383,8 +386,8 @@ fn second_lines(ordered: &OrderedLogs) -> usize {
     let version = ordered.machine.scenario().version();
     let mut count = 0usize;
     for line in &ordered.lines {
-        if let Logged::Step(step) = line.logged {
-            if step.log != Actor::C && twin_of(version, &ordered.lines, step).is_some() {
+        if let Logged::Step(step) = &line.logged {
+            if is_shared(step) && twin_of(version, &ordered.lines, step).is_some() {
                 count = count.saturating_add(1);
             }
         }
