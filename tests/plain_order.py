@@ -1,14 +1,13 @@
 """A plain model of `zy_bench order` (docs/order.md), over the plain table. It goes along the logs step by step; orders of the same lines that lead to the
 same state go on as one. `tried_merges` answers the same without that: it runs every merge of every completion of the logs.
 
-Logs are the lines of the client, of A and of B, some of which are gaps. A place is how many lines of each are made, how many steps that its log lacks
-were made since the last of them, and the state there."""
+Logs are the lines of the client, of A and of B, some of which are gaps. A choice of the client may stand in the log of a node, too, or there alone. A place
+is how many lines of each log are made, how many steps that it lacks were made since the last of them, and the state there."""
 
 import os
 import re
 from collections import namedtuple
 from itertools import product
-from math import comb
 
 from case import TOP, content
 from plain_goals import is_over
@@ -16,12 +15,12 @@ from plain_search import considered
 from plain_table import NODES, other, step
 
 # What a line tells: a choice, the words of its outcome, of which the last ones or all may be left out, the value of its instruction, or None, the kind of the
-# message, or None, and the rows of the page that was sent or taken, or None.
-Line = namedtuple('Line', 'choice told value sent rows', defaults=(None,))
+# message, or None, and the rows of the page that was sent or taken, or None; and the node in whose log it stands though the choice is the client's, or None.
+Line = namedtuple('Line', 'choice told value sent rows node', defaults=(None, None))
 
 # What a step shows: the words of its outcome, the value of its instruction, or None, the kind of the message that it sent, or None, and the rows of the page
-# that it sent or took, or None.
-Shown = namedtuple('Shown', 'outcome value sent rows')
+# that it sent or took, or None; and the node where a step of the client took place, or None, as of one that changed nothing.
+Shown = namedtuple('Shown', 'outcome value sent rows node')
 
 # What comes of it: whether there is an order, the places that are reached, and those that are furthest.
 Answer = namedtuple('Answer', 'verdict places furthest')
@@ -69,13 +68,23 @@ def is_possible(action, told):
     return any(all(word == wanted for word, wanted in zip(told, outcome)) for outcome in OUTCOMES_OF[action])
 
 
+def can_stand(line):
+    """Whether a line can stand in its log: where that is a node's, `began` names this node, or none."""
+    return line.node is None or line.told[:1] != ['began'] or line.told[1:] in ([], [line.node])
+
+
 def is_gap(line):
     return line.choice[1] == GAP
 
 
+def log_of(line):
+    """In whose log a line stands."""
+    return line.node or line.choice[0]
+
+
 def split(lines):
     """The logs of some lines, with their gaps."""
-    return tuple(tuple(line for line in lines if line.choice[0] == actor) for actor in ACTORS)
+    return tuple(tuple(line for line in lines if log_of(line) == actor) for actor in ACTORS)
 
 
 def made_of(log):
@@ -113,18 +122,27 @@ def value_of(instruction, txn):
     return dict(txn.private)[held] if word in ('write', 'insert') else None if word == 'beq' else held
 
 
+def node_of_step(choice, before, after):
+    """The node where a step of the client took place: the one where its transaction is or was, or which starts a migration. None if it changed nothing."""
+    if choice[0] != 'C' or before == after:
+        return None
+    if choice[1] == 'start':
+        return next(name for name, node in zip(NODES, after.nodes) if node.mode == 'sinit')
+    return after.txns[choice[2]].node
+
+
 def came_of(scenario, state, choice):
     """What the step of a choice shows, and the state after it."""
     outcome, after = step(scenario, state, choice)
     t = choice[2]
     value = value_of(scenario.programs[t][state.txns[t].pc], after.txns[t]) if outcome == 'did' else None
     sent = sent_by(state, after)
-    return Shown(outcome.split(), value, sent and sent[0], rows_moved(state, choice, outcome, sent)), after
+    return Shown(outcome.split(), value, sent and sent[0], rows_moved(state, choice, outcome, sent), node_of_step(choice, state, after)), after
 
 
 def agrees(line, shown):
-    """Whether what a step shows is what a line tells."""
-    parts = (line.value, shown.value), (line.sent, shown.sent), (line.rows, shown.rows)
+    """Whether what a step shows is what a line tells, and the line may stand in its log."""
+    parts = (line.value, shown.value), (line.sent, shown.sent), (line.rows, shown.rows), (line.node, shown.node or line.node)
     return shown.outcome[:len(line.told)] == line.told and all(told in (None, part) for told, part in parts)
 
 
@@ -135,10 +153,35 @@ def told_by(line, shown):
     return shown.outcome + value + (['!', shown.sent] if shown.sent else []) + rows
 
 
-def state_after(scenario, state, line):
-    """The state after a line's choice, or None where it does not fit."""
-    shown, after = came_of(scenario, state, line.choice)
-    return after if agrees(line, shown) else None
+def tells_once(version, line):
+    """Whether a line tells what comes of its choice only once: in version 1 there is one migration."""
+    return line.choice[0] == 'C' and line.told[:1] in (['began'], ['aborted'], *[['started']] * (version == 1))
+
+
+def are_twins(version, line, twin):
+    """Whether lines are of two logs and of one choice, and both tell what comes only once."""
+    return log_of(line) != log_of(twin) and line.choice == twin.choice and tells_once(version, line) and tells_once(version, twin)
+
+
+def has_twin(version, logs, line):
+    """Whether a line has a twin in some logs."""
+    return tells_once(version, line) and any(are_twins(version, line, twin) for log in logs for twin in log)
+
+
+def are_one(version, logs, line, second):
+    """Whether a line of the client and one of a node may tell one step: they are of one choice, and twins if the second one has a twin."""
+    return line.choice == second.choice and (are_twins(version, line, second) or not has_twin(version, logs, second))
+
+
+def may_be_step(version, logs, lines):
+    """Whether lines, each of another log, may tell one step: one that has no twin, or one of the client's and one of a node's."""
+    if len(lines) == 1:
+        return not has_twin(version, logs, lines[0])
+    return log_of(lines[0]) == 'C' and are_one(version, logs, *lines)
+
+
+# The logs that may tell a step together: each one alone, and the client's with that of a node.
+TELLING = ((0,), (1,), (2,), (0, 1), (0, 2))
 
 
 def put(numbers, x, number):
@@ -146,13 +189,21 @@ def put(numbers, x, number):
     return numbers[:x] + (number,) + numbers[x + 1:]
 
 
-def places_by_lines(scenario, logs, place):
-    """The places one line further."""
+def passed(made, telling):
+    """How many lines of each log are made, once one more is made of some."""
+    return tuple(count + (x in telling) for x, count in enumerate(made))
+
+
+def places_by_lines(scenario, logs, place, apart=False):
+    """The places one step of lines further, each with the choice of the step. Twins may come apart if it is said so."""
     made, missing, state = place
-    for x, log in enumerate(logs):
-        after = state_after(scenario, state, log[made[x]]) if made[x] < len(log) else None
-        if after:
-            yield Place(put(made, x, made[x] + 1), put(missing, x, 0), after)
+    for telling in TELLING:
+        lines = [logs[x][made[x]] for x in telling if made[x] < len(logs[x])]
+        if len(lines) < len(telling) or lines[0].choice != lines[-1].choice or not (apart or may_be_step(scenario.version, logs, lines)):
+            continue
+        shown, after = came_of(scenario, state, lines[0].choice)
+        if all(agrees(line, shown) for line in lines):
+            yield lines[0].choice, Place(passed(made, telling), tuple(count * (x not in telling) for x, count in enumerate(missing)), after)
 
 
 def places_by_missing(scenario, rooms, place):
@@ -172,8 +223,8 @@ def rank(made):
 
 
 def is_alone(log, at):
-    """Whether the line at a place of a log tells of a run that did, or that nothing came."""
-    return any(line.told[:1] == ['did'] or line.told and line.told[0] in NOTHING for line in log[at:at + 1])
+    """Whether the line at a place of a node's log is of a choice of the node, and tells of a run that did, or that nothing came."""
+    return any(not line.node and (line.told[:1] == ['did'] or line.told and line.told[0] in NOTHING) for line in log[at:at + 1])
 
 
 def place_alone(scenario, logs, rooms, place):
@@ -181,20 +232,20 @@ def place_alone(scenario, logs, rooms, place):
     missing before it."""
     for x in (ACTORS.index('A'), ACTORS.index('B')):
         if is_alone(logs[x], place.made[x]) and place.missing[x] >= rooms[x][place.made[x]]:
-            after = [after for after in places_by_lines(scenario, logs, place) if after.made[x] > place.made[x]]
+            after = [after for choice, after in places_by_lines(scenario, logs, place) if after.made[x] > place.made[x]]
             if after:
                 return after
     return []
 
 
-def places_after(scenario, logs, rooms, place):
+def places_after(scenario, logs, rooms, place, apart):
     """The places one step further."""
-    return [*places_by_lines(scenario, logs, place), *places_by_missing(scenario, rooms, place)]
+    return [*(after for _, after in places_by_lines(scenario, logs, place, apart)), *places_by_missing(scenario, rooms, place)]
 
 
-def order(scenario, state, all_logs, gap, most, reduced=True):
+def order(scenario, state, all_logs, gap, most, reduced=True, apart=False):
     """Whether there is an order of the logs from a state on, if at most `most` places are reached; else TooMany. If it is reduced, some lines
-    are followed alone, which may come before all that the others do."""
+    are followed alone, which may come before all that the others do. Twins may come apart if it is said so."""
     logs, rooms = [made_of(log) for log in all_logs], [room_in(log, gap) for log in all_logs]
     places, level = set(), {Place((0, 0, 0), (0, 0, 0), state)}
     while level:
@@ -202,7 +253,7 @@ def order(scenario, state, all_logs, gap, most, reduced=True):
         if len(places) > most:
             raise TooMany
         alone = {place: reduced and place_alone(scenario, logs, rooms, place) for place in level}
-        level = {after for place in level for after in alone[place] or places_after(scenario, logs, rooms, place)} - places
+        level = {after for place in level for after in alone[place] or places_after(scenario, logs, rooms, place, apart)} - places
     found = any(place.made == tuple(map(len, logs)) for place in places)
     best = max(rank(place.made) for place in places)
     return Answer('found' if found else 'none', places, [place for place in places if rank(place.made) == best])
@@ -227,14 +278,35 @@ def completions(scenario, log, gap):
     return [sum(chosen, ()) for chosen in product(*parts)]
 
 
+def merges(logs, at=(0, 0, 0)):
+    """Each merge of completed logs from some lines on: of each step the logs that tell it. Two lines of one step are of one choice, and none is missing."""
+    if at == tuple(map(len, logs)):
+        yield ()
+    for telling in steps_at(logs, at):
+        for rest in merges(logs, passed(at, telling)):
+            yield (telling,) + rest
+
+
+def steps_at(logs, at):
+    """The logs whose next lines may tell a step together, as far as their choices say; a line is given with whether it is one of the log."""
+    for telling in TELLING:
+        lines = [logs[x][at[x]] for x in telling if at[x] < len(logs[x])]
+        if len(lines) == len(telling) and (len(lines) == 1 or all(is_logged for _, is_logged in lines) and lines[0][0].choice == lines[1][0].choice):
+            yield telling
+
+
 def merge_count(logs):
-    client, a, b = map(len, logs)
-    return comb(client + a + b, client) * comb(a + b, a)
+    """How many merges of completed logs there are."""
+    counts = {tuple(map(len, logs)): 1}
+    for at in product(*(range(len(log), -1, -1) for log in logs)):
+        if at not in counts:
+            counts[at] = sum(counts[passed(at, telling)] for telling in steps_at(logs, at))
+    return counts[0, 0, 0]
 
 
 def trial_count(scenario, logs, gap):
     """How many merges of completions there are at most."""
-    count = merge_count([made_of(log) + tuple(line for line in log if is_gap(line)) * gap for log in logs])
+    count = merge_count([[(line, not is_gap(line)) for line in log for _ in range(gap if is_gap(line) else 1)] for log in logs])
     for line in sum(logs, ()):
         if is_gap(line):
             choices = sum(choice[0] == line.choice[0] for choice in considered(scenario, True))
@@ -242,31 +314,22 @@ def trial_count(scenario, logs, gap):
     return count
 
 
-def merges(left):
-    """Each merge of lists of these lengths: whose element is next."""
-    if not any(left):
-        yield ()
-    for x, count in enumerate(left):
-        if count:
-            for rest in merges(left[:x] + (count - 1,) + left[x + 1:]):
-                yield (x,) + rest
-
-
 def made_along(scenario, state, logs, merge):
-    """How many lines of each log are made along a merge of completions, after each line that fits."""
+    """How many lines of each log are made along a merge of completions, after each step whose lines fit."""
+    own = [[line for line, is_logged in log if is_logged] for log in logs]
     at, made = (0, 0, 0), (0, 0, 0)
     yield made
-    for x in merge:
-        line, is_logged = logs[x][at[x]]
-        state = state_after(scenario, state, line)
-        if not state:
+    for telling in merge:
+        lines, are_logged = zip(*(logs[x][at[x]] for x in telling))
+        shown, state = came_of(scenario, state, lines[0].choice)
+        if not all(agrees(line, shown) for line in lines) or all(are_logged) and not may_be_step(scenario.version, own, lines):
             return
-        at, made = put(at, x, at[x] + 1), put(made, x, made[x] + is_logged)
+        at, made = passed(at, telling), passed(made, telling if all(are_logged) else ())
         yield made
 
 
 def tried_merges(scenario, state, logs, gap):
     """The verdict, and the rank of the furthest places, by trying each merge of each completion."""
     reached = {made for completed in product(*(completions(scenario, log, gap) for log in logs))
-               for merge in merges(tuple(map(len, completed))) for made in made_along(scenario, state, completed, merge)}
+               for merge in merges(completed) for made in made_along(scenario, state, completed, merge)}
     return 'found' if tuple(len(made_of(log)) for log in logs) in reached else 'none', max(map(rank, reached))

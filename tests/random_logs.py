@@ -1,10 +1,10 @@
-"""Random scenarios with logs of a run: each step a line of its actor's log, some of its parts left out, and the logs mixed. Some logs lack lines, with a gap
-in their place."""
+"""Random scenarios with logs of a run: each step a line of its actor's log, some of its parts left out, and the logs mixed. Steps of the client may be told by
+a line of the node where they took place, too, or by that alone. Some logs lack lines, with a gap in their place."""
 
 from collections import namedtuple
 
-from plain_order import ACTORS, DEFAULT_GAP, GAP, Line, TooMany, came_of, is_gap, is_possible, order, split
-from plain_table import LAST_KEY, opening, read
+from plain_order import ACTORS, DEFAULT_GAP, GAP, Line, TooMany, came_of, can_stand, is_gap, is_possible, log_of, order, split
+from plain_table import LAST_KEY, NODES, opening, read
 from random_questions import line_of, random_text, random_walk
 
 # A scenario with its own choices, the state after them, lines, how many steps a gap stands for at most, and the whole text with the number of each line
@@ -30,6 +30,9 @@ LAST_VALUE, MOST_ROWS = 2 ** 32 - 1, 16
 # The choices whose steps send or take a page.
 MOVING = ('take', 'push')
 
+# Which logs tell a step of the client: its own, that of the node where it took place, both, or any of these by turns.
+TELLING = ('own', 'own', 'node', 'both', 'any')
+
 
 def random_logs(chance, changes, gaps):
     """Logs of a random run with a number of changes and of gaps, for which there are not too many places."""
@@ -39,9 +42,10 @@ def random_logs(chance, changes, gaps):
         kill = chance.random() < 0.5
         own, start = random_walk(chance, scenario, opening(scenario), kill, chance.choice([0, 0, 2, 6]))
         steps, _ = random_walk(chance, scenario, start, kill, chance.randint(1, 12 if gaps else 30))
-        lines, gap = logged(chance, scenario, start, steps), chance.choice([1, 1, 2, 3, DEFAULT_GAP])
+        telling = chance.choice(TELLING)
+        lines, gap = logged(chance, scenario, start, steps, telling), chance.choice([1, 1, 2, 3, DEFAULT_GAP])
         for _ in range(gaps):
-            lines = with_gap(chance, lines, gap)
+            lines = with_gap(chance, lines, gap, telling == 'both')
         for _ in range(changes):
             lines = changed(chance, lines)
         try:
@@ -59,7 +63,7 @@ def right_run(chance, part, count):
     while True:
         scenario = read(text := random_text(chance))
         steps, _ = random_walk(chance, scenario, opening(scenario), False, 60)
-        lines = lines_in_full(scenario, steps)
+        lines = lines_in_full(chance, scenario, steps, chance.choice(TELLING))
         telling = [(line, word) for line, word in lines if getattr(line, part) is not None]
         if len(telling) >= count and (part == 'value' or 'got pull' in [word for _, word in telling]):
             return scenario, text, mixed(chance, split([line for line, _ in lines])), telling
@@ -88,30 +92,37 @@ def another_part(chance, part, line):
     return [change], rows
 
 
-def lines_in_full(scenario, steps):
+def lines_in_full(chance, scenario, steps, telling):
     """The lines of the steps of a run that changed something, each of which tells all but the number of a commit; each with the word of its instruction, or if
     it is no `run` with the first words of its outcome."""
     lines, state = [], opening(scenario)
     for choice in steps:
         shown, after = came_of(scenario, state, choice)
         if after != state:
-            told = shown._replace(outcome=shown.outcome[:1]) if shown.outcome[0] == 'committed' else shown
+            told = shown.outcome[:1] if shown.outcome[0] == 'committed' else shown.outcome
             is_run, count = choice[1] == 'run', 2 if choice[1] == 'take' else 1
             word = scenario.programs[choice[2]][state.txns[choice[2]].pc][0] if is_run else ' '.join(shown.outcome[:count])
-            lines.append((Line(choice, *told), word))
+            lines += [(Line(choice, told, shown.value, shown.sent, shown.rows, node), word) for node in tellers(chance, choice, shown, telling)]
         state = after
     return lines
 
 
-def logged(chance, scenario, state, steps):
+def tellers(chance, choice, shown, telling):
+    """In which logs a step is told: None is that of its actor. What changes nothing may be told in the log of either node."""
+    telling = 'own' if choice[0] != 'C' else chance.choice(TELLING[1:4]) if telling == 'any' else telling
+    return [None] * (telling != 'node') + [shown.node or chance.choice(NODES)] * (telling != 'own')
+
+
+def logged(chance, scenario, state, steps, telling):
     """The lines of a run."""
     outcomes, numbers, values, messages, pages = (chance.choice(SHARES) for _ in range(5))
     lines = []
     for choice in steps:
-        (outcome, value, sent, rows), state = came_of(scenario, state, choice)
-        told = [] if chance.random() < outcomes else shortened(chance, outcome) if chance.random() < numbers else outcome
-        lines.append(Line(choice, told, None if not told or chance.random() < values else value, None if chance.random() < messages else sent,
-                          None if chance.random() < pages else rows))
+        shown, state = came_of(scenario, state, choice)
+        for node in tellers(chance, choice, shown, telling):
+            told = [] if chance.random() < outcomes else shortened(chance, shown.outcome) if chance.random() < numbers else shown.outcome
+            lines.append(Line(choice, told, None if not told or chance.random() < values else shown.value,
+                              None if chance.random() < messages else shown.sent, None if chance.random() < pages else shown.rows, node))
     return lines
 
 
@@ -120,13 +131,14 @@ def shortened(chance, outcome):
     return outcome[:chance.randint(2 if outcome[0] == 'got' else 1, len(outcome))]
 
 
-def with_gap(chance, lines, gap):
-    """Lines with a gap, in the place of as many lines of an actor as it may stand for, or of fewer."""
+def with_gap(chance, lines, gap, is_told_twice):
+    """Lines with a gap, in the place of as many lines of a log as it may stand for, or of fewer. A gap of a node stands for none of the client, so those remain
+    that are not told twice."""
     actor = chance.choice(ACTORS)
-    own = [at for at, line in enumerate(lines) if line.choice[0] == actor]
+    own = [at for at, line in enumerate(lines) if log_of(line) == actor]
     first = chance.randint(0, len(own))
     lacking = own[first:first + chance.randint(0, gap)]
-    if any(is_gap(lines[at]) for at in lacking):
+    if any(is_gap(lines[at]) or lines[at].node and not is_told_twice for at in lacking):
         lacking = []
     behind = own[first] if first < len(own) else len(lines)
     left = [(at, line) for at, line in enumerate(lines) if at not in lacking]
@@ -134,20 +146,21 @@ def with_gap(chance, lines, gap):
 
 
 def changed(chance, lines):
-    """Lines of which one is changed: it tells something else, is swapped with the next one of its actor, or is missing."""
+    """Lines of which one is changed: it tells something else, is swapped with the next one of its log, stands elsewhere in it or in another log, or is
+    missing."""
     if not lines:
         return lines
     at = chance.randrange(len(lines))
     if is_gap(lines[at]):
         return swapped(lines, at)
-    line, kind = lines[at], chance.choice(['outcome', 'outcome', 'message', 'value', 'value', 'rows', 'swap', 'swap', 'missing'])
-    if kind in ('value', 'rows'):
-        return (with_another_value if kind == 'value' else with_other_rows)(chance, lines)
+    line, kind = lines[at], chance.choice(['outcome', 'outcome', 'message', 'value', 'value', 'rows', 'swap', 'swap', 'move', 'log', 'missing'])
+    if kind in CHANGES:
+        return CHANGES[kind](chance, lines)
     if kind == 'swap':
         return swapped(lines, at)
     if kind == 'missing':
         return lines[:at] + lines[at + 1:]
-    others = [outcome.split() for outcome in OUTCOMES if is_possible(line.choice[1], outcome.split())]
+    others = [told for told in map(str.split, OUTCOMES) if is_possible(line.choice[1], told) and can_stand(line._replace(told=told))]
     other = line._replace(told=chance.choice(others), value=None) if kind == 'outcome' else line._replace(sent=chance.choice(KINDS))
     return lines[:at] + [other] + lines[at + 1:]
 
@@ -171,6 +184,30 @@ def with_other_rows(chance, lines):
     return lines[:at] + [lines[at]._replace(rows=another_page(chance, lines[at].rows or ())[1])] + lines[at + 1:]
 
 
+def moved(chance, lines):
+    """Lines of which one, that stands in the log of a node though the client chose its step if there is one, stands elsewhere in its log."""
+    shared = [at for at, line in enumerate(lines) if line.node]
+    at = chance.choice(shared or range(len(lines)))
+    left = lines[:at] + lines[at + 1:]
+    places = [place for place, line in enumerate(left) if log_of(line) == log_of(lines[at])] + [len(left)]
+    place = chance.choice(places)
+    return left[:place] + [lines[at]] + left[place:]
+
+
+def in_another_log(chance, lines):
+    """Lines of which one, that tells a step of the client if there is one, stands in another log."""
+    told = [at for at, line in enumerate(lines) if line.choice[0] == 'C' and not is_gap(line)]
+    if not told:
+        return lines
+    at = chance.choice(told)
+    other = lines[at]._replace(node=chance.choice([node for node in (None, *NODES) if node != lines[at].node]))
+    return lines[:at] + [other if can_stand(other) else other._replace(told=other.told[:1])] + lines[at + 1:]
+
+
+# The changes for which a line is sought that they can be made to.
+CHANGES = {'value': with_another_value, 'rows': with_other_rows, 'move': moved, 'log': in_another_log}
+
+
 def another_page(chance, rows):
     """Other rows of a page, and what is other: a value, a key, or that a row is left out or added."""
     change = chance.choice(['value', 'key', 'left out'] * bool(rows) + ['added'] * (len(rows) < MOST_ROWS))
@@ -190,8 +227,8 @@ def another_value(chance, value):
 
 
 def swapped(lines, at):
-    """Lines of which one and the next one of its actor have changed places."""
-    after = next((i for i in range(at + 1, len(lines)) if lines[i].choice[0] == lines[at].choice[0]), at)
+    """Lines of which one and the next one of its log have changed places."""
+    after = next((i for i in range(at + 1, len(lines)) if log_of(lines[i]) == log_of(lines[at])), at)
     swap = list(lines)
     swap[at], swap[after] = lines[after], lines[at]
     return swap
@@ -217,10 +254,10 @@ def written(chance, scenario, head, lines):
 
 def spelled(chance, scenario, line):
     """A line as text."""
-    actor, action, txn = line.choice
+    _, action, txn = line.choice
     if is_gap(line):
-        return actor + chance.choice([' ', '  ', '\t']) + GAP
-    words = [actor, action] + ([] if txn is None else [name_of(chance, scenario, txn)])
+        return log_of(line) + chance.choice([' ', '  ', '\t']) + GAP
+    words = [log_of(line), action] + ([] if txn is None else [name_of(chance, scenario, txn)])
     if line.told:
         words += ['->'] + line.told[:1] + [name_of(chance, scenario, int(word)) if line.told[0] == 'active' else word for word in line.told[1:]]
         words += [] if line.value is None else [chance.choice(['%d', '%d', '%010d']) % line.value]
