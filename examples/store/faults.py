@@ -11,6 +11,8 @@ FAULTS = {
     'old': 'a page leaves with the rows that it had when the migration started',
     'more': 'a read at the destination returns 1000 too much',
     'lost': 'the message that the source has no active transaction is lost',
+    'route': 'the source begins transactions though it is dual',
+    'late': 'a full page is split at the source though the wireframe has left',
 }
 
 

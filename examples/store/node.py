@@ -58,7 +58,8 @@ class Node:
             connection.close()
 
     def log(self, action, outcome, value=None, rows=None):
-        """Writes down a step of this node, and lets its message go. Where that is a page, the line has the rows which it takes along."""
+        """Writes down a step of this node, or one of the client that took place here, and lets its message go. Where that is a page, the line has the rows which
+        it takes along."""
         kind, *rest = self.message or [None]
         self.log_file.write(self.form.head(self.name, action) + self.form.tail(outcome, kind, value, rest[1] if kind == 'page' else rows))
         self.post()
@@ -69,7 +70,7 @@ class Node:
                 self.outbox.put(self.message)
             self.message = None
 
-    # What the client asks for. `step` alone is a step of this node; the others are the client's, which writes them into its own log.
+    # What the client asks for. `step` alone is a step of this node; the others are the client's, which writes them into its own log, too.
 
     def on_start(self):
         with self.latch:
@@ -78,15 +79,16 @@ class Node:
             self.mode = 'sinit'
             self.slips.snapshot = {page: dict(rows) for page, rows in self.pages.items()}
             self.message = ['wire', list(self.lows)]
-            self.post()
+            self.log('start', 'started')
             return 'started ! wire'
 
     def on_begin(self, number):
         """Begins a transaction here, if it may; else there is no answer."""
         with self.latch:
-            if self.mode not in BEGINS[self.name]:
+            if self.mode not in BEGINS[self.name] and not self.slips.into('route', self.mode == 'sdual'):
                 return None
             self.transactions[number] = Transaction(number, self.scenario.programs[number])
+            self.log('begin %d' % number, 'began ' + self.name)
             return 'began ' + self.name
 
     def on_kill(self, number):
@@ -95,6 +97,7 @@ class Node:
             if transaction.status != 'active':
                 return 'idle'
             self.end(transaction, 'aborted killed')
+            self.log('kill %d' % number, transaction.status)
             return transaction.status
 
     def on_step(self, number):
@@ -114,7 +117,7 @@ class Node:
         """All that is compared at the end, and how often the node's fault made a difference."""
         with self.latch:
             return {'mode': self.mode, 'slips': self.slips.count,
-                    'pages': [(page, self.lows[page], sorted(rows.items())) for page, rows in self.pages.items()],
+                    'pages': [(page, low, sorted(self.pages[page].items())) for page, low in enumerate(self.lows) if page in self.pages],
                     'transactions': [(t.number, t.status, t.done, t.registers) for t in self.transactions.values()]}
 
     # The instructions
@@ -244,7 +247,7 @@ class Node:
 
     def split(self, transaction, page, keys):
         """Cuts a full page in two. The session tries its insert again at once: that is another `run`."""
-        if self.mode != 'normal':
+        if self.mode != 'normal' and not self.slips.into('late', self.name == 'A'):
             raise Abort('frozen %d' % page)
         if len(self.lows) >= self.scenario.pages:
             raise Abort('nopage')
@@ -319,7 +322,7 @@ class Node:
 
     def hand_over(self, page):
         rows = self.slips.left[page] = self.pages.pop(page) if page in self.pages else self.slips.left[page]
-        if self.slips.into('old', rows != self.slips.snapshot[page]):
+        if self.slips.into('old', rows != self.slips.snapshot.get(page)):
             rows = self.slips.snapshot[page]
         self.message = ['page', page, sorted(rows.items())]
 
