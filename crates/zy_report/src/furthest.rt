@@ -216,6 +216,14 @@ impl<'a> Furthest<'a> {
         }
     }
 
+    /// Whether a line is the next one of its log.
+    fn comes_next(&self, line: NumberedStep) -> bool {
+        match self.next(line.step.log) {
+            Some(next) => next.number == line.number,
+            None => false,
+        }
+    }
+
     /// Says that the next line of a node tells the step of a line of the client that does not come next, if it fits and does. Whether it
     /// said so.
     fn tell_apart<R: Eprint + AllocGlobal>(
@@ -232,7 +240,7 @@ impl<'a> Furthest<'a> {
         let Some(twin) = twin_of(version, self.lines, &line.step) else {
             return false;
         };
-        if self.unfit(rt.alloc(), actor).is_some() {
+        if self.comes_next(twin) || self.unfit(rt.alloc(), actor).is_some() {
             return false;
         }
         let apart = Apart {
