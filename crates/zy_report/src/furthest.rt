@@ -304,11 +304,11 @@ impl<'a> Furthest<'a> {
     }
 
     /// Says what the table gives in the place of a line that does not fit. Out of memory it says nothing.
-    fn tell_line<R: Eprint + AllocGlobal>(
+    fn tell_line<'x, R: Eprint + AllocGlobal>(
         &self,
         rt: &R,
-        file: Option<&str>,
-        input: &[u8],
+        file: Option<&'x str>,
+        input: &'x [u8],
         line: NumberedStep,
         shown: &Observation,
     ) {
@@ -506,14 +506,14 @@ impl fmt::Display for ToldLine<'_> {
 
 /// A line that does not fit, and what the table gives.
 #[derive(Clone, Copy)]
-struct Unfit<'a> {
+struct Unfit<'a, 'b> {
     told: ToldLine<'a>,
-    came: &'a [u8],
+    came: &'b [u8],
     /// Whether its step may only be made too early.
     may_be_early: bool,
 }
 
-impl fmt::Display for Unfit<'_> {
+impl fmt::Display for Unfit<'_, '_> {
     fn fmt<W: Write>(&self, f: &mut Formatter<W>) -> fmt::Result {
         let came = Excerpt::of(self.came, 0);
         write!(f, "{}: the table gives {came} there", self.told)?;
